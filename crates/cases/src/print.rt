@@ -1,0 +1,64 @@
+// Words and numbers, written to standard output.
+use libc::STDOUT_FILENO;
+
+const DIGITS: [u8; 16] = *b"0123456789ABCDEF";
+
+// Writes the bytes as they are.
+pub fn text(t: &[u8]) {
+    io::write_all(STDOUT_FILENO, t);
+}
+
+// Two hex digits.
+pub fn hex(b: u8) {
+    let pair = [DIGITS[(b / 16) as usize], DIGITS[(b % 16) as usize]];
+    text(&pair);
+}
+
+// Four hex digits.
+pub fn hex_word(w: u16) {
+    hex((w / 256) as u8);
+    hex((w % 256) as u8);
+}
+
+// Eight hex digits.
+pub fn hex_long(l: u32) {
+    hex_word((l / 65536) as u16);
+    hex_word((l % 65536) as u16);
+}
+
+// A number in decimal digits.
+pub fn decimal(n: usize) {
+    io::print_decimal(STDOUT_FILENO, n as u64);
+}
+
+// A word, and 1 or 0 behind it.
+pub fn flag(word: &[u8], is_set: bool) {
+    text(word);
+    if is_set {
+        text(b" 1");
+    } else {
+        text(b" 0");
+    }
+}
+
+// A word, where it applies.
+pub fn word_if(word: &[u8], applies: bool) {
+    if applies {
+        text(word);
+    }
+}
+
+// A space and two hex digits.
+fn pair(b: u8) {
+    text(b" ");
+    hex(b);
+}
+
+// Each byte as a space and two hex digits.
+pub fn pairs(bytes: &[u8]) {
+    let mut i = 0;
+    while i < bytes.len() {
+        pair(bytes[i]);
+        i += 1;
+    }
+}

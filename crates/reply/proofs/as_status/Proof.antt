@@ -1,0 +1,41 @@
+-- `reply::as_status` meets its contract. Assumes nothing.
+use borrow.Author.Needs.{needs}
+use Rattle.reply.proofs.as_status.Statement.{statement}
+use Rattle.reply.proofs.as_status.Tie as tie
+
+byte-at-requires : tie.Need-byte-at-requires
+byte-at-requires c κs = search needs
+
+byte-at-requires-2 : tie.Need-byte-at-requires-2
+byte-at-requires-2 c κs = search needs
+
+byte-at-requires-3 : tie.Need-byte-at-requires-3
+byte-at-requires-3 c κs = search needs
+
+byte-at-requires-4 : tie.Need-byte-at-requires-4
+byte-at-requires-4 c κs = search needs
+
+byte-at-requires-5 : tie.Need-byte-at-requires-5
+byte-at-requires-5 c κs = search needs
+
+word-requires : tie.Need-word-requires
+word-requires c κs = search needs
+
+byte-at-requires-6 : tie.Need-byte-at-requires-6
+byte-at-requires-6 c κs = search needs
+
+returns : tie.Need-returns
+returns c = cc
+
+pub as-status-spec : {M : Type 1} → statement M
+as-status-spec =
+    tie.close
+    (tie.spec
+    byte-at-requires
+    byte-at-requires-2
+    byte-at-requires-3
+    byte-at-requires-4
+    byte-at-requires-5
+    word-requires
+    byte-at-requires-6
+    returns)

@@ -1,0 +1,243 @@
+-- The answers of paths, units and changes: a lemma for each way out, and for each turn of a loop. Assumes nothing.
+--     bounded                  for `search`, a choice by a bound
+--     path-loop, end-loop      for `search (needs, ..)`, the turns of the loops over the paths and over the records
+--     loser-loop      for `search`, the start, the bound and the end of the loop over the losers; its turns are losers-add and losers-skip
+--     aca-ways, room-ways, start-ways, finish-ways      for `search`, the ways out of the functions on ACA, room, start and finish
+use Prim.Native.Nat.{ℕ, _+_, _^_, _≤_, _<_}
+use mathlib.Core.Path.{_≡_, refl, sym, ap, ap₂, _∙_}
+use mathlib.Core.Bool.{Bool, true, false, cond, not, _&&_}
+use mathlib.Core.List.{List}
+use native.Mathlib.Nat.{le-refl, le-antisymm}
+use native.Mathlib.Omega.{arith}
+use lib.Dec.{eqb, ltb, leb}
+use lib.ListN.{length, getD, set, replicate}
+use lib.Seq.{set-getD}
+use borrow.Author.Tests.{lt-ltb, le-ltb, le-leb, lt-leb, not-true, not-false}
+use Rattle.task.specs.Index.{mapOf, mapAt}
+use Rattle.task.specs.Tasks.{noTask}
+use Rattle.task.specs.Map.{isLive, lowestFree, withBit, withoutBit}
+use Rattle.task.specs.Selections.{picks, picksLive, fromOn, runningAs}
+use Rattle.task.specs.declared.Kind.{Kind}
+use Rattle.task.specs.declared.Task.{Task}
+use Rattle.task.specs.declared.select.Selection.{Selection}
+use Rattle.task.specs.declared.select.Place.{Place}
+use Rattle.task.specs.declared.select.Place.the-variants.{Anywhere, On}
+use Rattle.task.specs.declared.scan.Pick.{Pick}
+use Rattle.task.proofs.Ways.{cond-below, cond-past, answered-true, answered-false}
+use Rattle.task.proofs.Places.{mapOf-ext}
+use Rattle.task.proofs.Lists.{mapBelow, mapBelow-ahead, mapBelow-zero, mapBelow-step, mapBelow-put, mapBelow-skip, mapBelow-all}
+use Rattle.task.proofs.Bits.{mapOf-lt}
+use Rattle.task.proofs.Loops.{mapOf-start, mapOf-add, mapOf-skip}
+use Rattle.task.proofs.Clearing.{clearBelow, clear-zero, clear-step, clear-skip, clear-ahead, clear-all}
+use Rattle.task.proofs.Next.{found-is-some}
+use Rattle.table.specs.Tables.{noPath, noUnit, taskAt, picksAt, anyLive, pickOf, lastArrival, hasRoom, withTasks, withUnits, newTask, accepted, endedBy, runs, started, alarmedIn, loses, losersOf, claimedIn, acaClearedIn, finished, resetOf}
+use Rattle.table.specs.declared.Aca.the-variants.{Clear, Owned}
+use Rattle.table.specs.declared.Path as path
+use Rattle.table.specs.declared.Unit as unit
+use Rattle.table.specs.declared.Table.{Table}
+use Rattle.table.proofs.Lists.{unmapped}
+
+pub ruleset bounded = (cond-below, cond-past)
+
+-- ---- a loop over the paths: those that q picks go through g
+
+module _ (l : List path.Path) (q : ℕ → Bool) (g : path.Path → path.Path) where
+  abbrev through : ℕ → path.Path → path.Path
+  through p a = cond (q p) (g a) a
+
+  unfoldable pub pathsBelow : ℕ → List path.Path
+  pathsBelow k = mapBelow k through l
+
+  pub paths-start : l ≡ pathsBelow 0
+  unfolding pathsBelow
+  paths-start = sym (mapBelow-zero through l noPath)
+
+  module _ {m : List path.Path} (k : ℕ) (e : m ≡ pathsBelow k) where
+    pub path-through : {v : List path.Path} {a : path.Path} → v ≡ set m k a → a ≡ g (getD m k noPath) → q k ≡ true → k < 8 → length l ≡ 8 → v ≡ pathsBelow (k + 1)
+    unfolding pathsBelow
+    path-through d c b h n = d ∙ rw e (mapBelow-put through l noPath k (omega arith) (rw b (c ∙ rw e)))
+
+    pub path-kept : {v : List path.Path} → v ≡ m → q k ≡ false → v ≡ pathsBelow (k + 1)
+    unfolding pathsBelow
+    path-kept d b = d ∙ e ∙ mapBelow-skip through l noPath k (rw b)
+
+    pub paths-end : k ≤ 8 → 8 ≤ k → length l ≡ 8 → m ≡ mapAt through 0 l
+    unfolding pathsBelow
+    paths-end h j n = e ∙ mapBelow-all through l noPath k (n ∙ le-antisymm j h)
+
+pub ruleset path-loop = (paths-start, path-through, path-kept, lt-ltb, le-ltb, answered-true, answered-false, unmapped)
+
+-- ---- a unit's ACA
+
+module _ (units : List unit.Unit) (unit path : ℕ) (h : unit < 8) where
+  pub claim-kept : {p : ℕ} → getD units unit noUnit .aca ≡ Owned p → units ≡ claimedIn units unit path
+  unfolding claimedIn
+  claim-kept e = rw (lt-ltb unit 8 h, e) (sym (rw (← e) (set-getD units unit noUnit)))
+
+  pub claim-made : getD units unit noUnit .aca ≡ Clear → set units unit (record { aca = Owned path }) ≡ claimedIn units unit path
+  unfolding claimedIn
+  claim-made e = rw (lt-ltb unit 8 h, e)
+
+module _ (units : List unit.Unit) {place : Place} where
+  pub clear-all-units : {a : unit.Unit} → place ≡ Anywhere → a ≡ noUnit → replicate 8 a ≡ acaClearedIn units place
+  unfolding acaClearedIn
+  clear-all-units e h = rw (e, h)
+
+  module _ {u : ℕ} (e : place ≡ On u) where
+    pub clear-past : 8 ≤ u → units ≡ acaClearedIn units place
+    unfolding acaClearedIn
+    clear-past h = rw (e, le-ltb u 8 h)
+
+    pub clear-unit : {a : unit.Unit} → u < 8 → a ≡ noUnit → set units u a ≡ acaClearedIn units place
+    unfolding acaClearedIn
+    clear-unit h k = rw (e, lt-ltb u 8 h, k)
+
+pub ruleset aca-ways = (claim-kept, claim-made, clear-all-units, clear-past, clear-unit)
+
+-- ---- the scan finds a task where some live task is picked
+
+pub found-any : (t : Table) (s : Selection) {r : Pick} → r ≡ pickOf t s → length (t .tasks) ≡ 64 → r .found ≡ anyLive t s
+unfolding anyLive pickOf
+found-any t s e n = rw (e, ← n) (found-is-some (t .live) s (t .tasks))
+
+-- ---- room, and what is accepted
+
+module _ (t : Table) {i : ℕ} (e : i ≡ lowestFree (t .live)) where
+  pub no-record : 64 ≤ i → false ≡ hasRoom t
+  unfolding hasRoom
+  no-record h = rw (← e, le-ltb i 64 h)
+
+  pub some-record : i < 64 → leb (t .next) lastArrival ≡ hasRoom t
+  unfolding hasRoom
+  some-record h = rw (← e, lt-ltb i 64 h)
+
+  module _ (path tag unit : ℕ) (kind : Kind) where
+    pub accept-full : 64 ≤ i → t ≡ accepted t path tag unit kind
+    unfolding accepted
+    accept-full h = rw (← no-record h)
+
+    pub accept-late : i < 64 → lastArrival < t .next → t ≡ accepted t path tag unit kind
+    unfolding accepted
+    accept-late h l = rw (← some-record h, lt-leb _ _ l)
+
+    pub accept-put : {m : ℕ} → i < 64 → t .next ≤ lastArrival → m ≡ withBit (t .live) i
+        → record { live = m; next = t .next + 1; count = t .count; attached = t .attached; paths = t .paths; units = t .units; tasks = set (t .tasks) i (newTask t path tag unit kind) }
+        ≡ accepted t path tag unit kind
+    unfolding accepted
+    accept-put h l k = rw (← some-record h, le-leb _ _ l, ← e, k)
+
+pub ruleset room-ways = (no-record, some-record, accept-full, accept-late, accept-put)
+
+-- ---- a task that starts
+
+module _ (t : Table) {i : ℕ} where
+  pub start-past : 64 ≤ i → t ≡ started t i
+  unfolding started
+  start-past h = rw (le-ltb i 64 h)
+
+  module _ {b : Bool} (h : i < 64) (e : b ≡ isLive (t .live) i) where
+    pub start-dead : not b ≡ true → t ≡ started t i
+    unfolding started
+    start-dead k = rw (lt-ltb i 64 h, ← e, not-true b k)
+
+    pub start-runs : not b ≡ false → withTasks t (t .live) (set (t .tasks) i (runs (taskAt t i))) ≡ started t i
+    unfolding started
+    start-runs k = rw (lt-ltb i 64 h, ← e, not-false b k)
+
+pub ruleset start-ways = (start-past, start-dead, start-runs)
+
+-- ---- the pass that ends what is picked
+
+live-not-both : (b c : Bool) → (b && not (b && c)) ≡ (b && not c)
+live-not-both true c = refl
+live-not-both false c = refl
+
+module _ (t : Table) (s : Selection) where
+  abbrev wipe : ℕ → Task → Task
+  wipe i a = cond (picksLive (t .live) s i a) noTask a
+
+  unfoldable pub endedBelow : ℕ → Table
+  endedBelow k = withTasks t (clearBelow (picksAt t s) (t .live) k) (mapBelow k wipe (t .tasks))
+
+  pub end-start : t ≡ endedBelow 0
+  unfolding endedBelow
+  end-start = ap₂ (withTasks t) (sym (clear-zero (picksAt t s) (t .live))) (sym (mapBelow-zero wipe (t .tasks) noTask))
+
+  module _ {u : Table} (k : ℕ) (e : u ≡ endedBelow k) where
+    -- the pass asks of the table so far what the table at its start answers
+    end-here : k < 64 → picksAt u s k ≡ picksAt t s k
+    unfolding endedBelow
+    end-here h =
+        rw e
+        (ap₂ (λ (b : Bool) (a : Task). b && picks s a) (clear-ahead (picksAt t s) (t .live) k k (le-refl k) h)
+        (mapBelow-ahead wipe (t .tasks) noTask k k (le-refl k)))
+
+    module _ {b : Bool} (h : k < 64) (p : b ≡ picksAt u s k) where
+      pub end-wiped : {v : Table} {a : Task} {m : ℕ} → b ≡ true → v ≡ withTasks u m (set (u .tasks) k a) → a ≡ noTask → m ≡ withoutBit (u .live) k → length (t .tasks) ≡ 64
+          → v ≡ endedBelow (k + 1)
+      unfolding endedBelow
+      end-wiped y f c d n =
+          let z : picksAt t s k ≡ true = sym (end-here h) ∙ sym p ∙ y in
+          let w : noTask ≡ wipe k (taskAt t k) = rw z in
+          f ∙ rw (e, c, d, e)
+          (ap₂ (withTasks t) (clear-step (picksAt t s) (t .live) k z)
+          (ap (set (mapBelow k wipe (t .tasks)) k) w ∙ mapBelow-step wipe (t .tasks) noTask k (omega arith)))
+
+      pub end-kept : {v : Table} → b ≡ false → v ≡ u → v ≡ endedBelow (k + 1)
+      unfolding endedBelow
+      end-kept n d =
+          let z : picksAt t s k ≡ false = sym (end-here h) ∙ sym p ∙ n in
+          d ∙ e ∙ ap₂ (withTasks t) (clear-skip (picksAt t s) (t .live) k z) (mapBelow-skip wipe (t .tasks) noTask k (rw z))
+
+    pub end-all : k ≤ 64 → 64 ≤ k → length (t .tasks) ≡ 64 → t .live < 2 ^ 64 → u ≡ endedBy t s
+    unfolding endedBelow endedBy
+    end-all h l n m =
+        rw (e, le-antisymm h l)
+        (ap₂ (withTasks t)
+        (clear-all (picksAt t s) (t .live) m ∙ mapOf-ext 64 _ _ (λ i _. live-not-both (isLive (t .live) i) (picks s (taskAt t i))))
+        (mapBelow-all wipe (t .tasks) noTask 64 n))
+
+pub ruleset end-loop = (end-start, end-wiped, end-kept, end-all, unmapped)
+
+-- ---- finish and total reset
+
+module _ (t : Table) (a : Task) {failed : Bool} {u v : Table} (e : v ≡ endedBy u (runningAs (a .arrival))) where
+  pub finish-failed : {l : List unit.Unit} → u ≡ withUnits t l → l ≡ claimedIn (t .units) (a .unit) (a .path) → failed ≡ true → v ≡ finished t a failed
+  unfolding finished
+  finish-failed d h k = e ∙ rw (d, h, k)
+
+  pub finish-well : u ≡ t → failed ≡ false → v ≡ finished t a failed
+  unfolding finished
+  finish-well d k = e ∙ rw (d, k)
+
+pub ruleset finish-ways = (finish-failed, finish-well)
+
+pub reset-all : (t : Table) {l : List path.Path} {u : unit.Unit} {a : Task} → l ≡ alarmedIn (t .paths) (t .count) true → u ≡ noUnit → a ≡ noTask
+    → record { live = 0; next = t .next; count = t .count; attached = t .attached; paths = l; units = replicate 8 u; tasks = replicate 64 a } ≡ resetOf t
+unfolding resetOf
+reset-all t e h k = rw (e, h, k)
+
+-- ---- the map of the paths that lose a task
+
+module _ (t : Table) (unit sender : ℕ) where
+  pub loses-as : {r : Pick} {b : Bool} (p : ℕ) → length (t .tasks) ≡ 64 → r ≡ pickOf t (fromOn p unit) → b ≡ (ltb p (t .count) && (not (eqb p sender) && r .found)) → b ≡ loses t unit sender p
+  loses-as p n k f = f ∙ rw (found-any t (fromOn p unit) k n)
+
+  pub losers-start : 0 ≡ mapOf 0 (loses t unit sender)
+  losers-start = sym (mapOf-start (loses t unit sender))
+
+  module _ {m : ℕ} (p : ℕ) (e : m ≡ mapOf p (loses t unit sender)) where
+    pub losers-fit : m < 2 ^ p
+    losers-fit = rw e (mapOf-lt p (loses t unit sender))
+
+    pub losers-add : {b : Bool} {v : ℕ} → v ≡ m + 2 ^ p → b ≡ true → b ≡ loses t unit sender p → v ≡ mapOf (p + 1) (loses t unit sender)
+    losers-add d h f = d ∙ rw e (mapOf-add p (loses t unit sender) (answered-true f h))
+
+    pub losers-skip : {b : Bool} {v : ℕ} → v ≡ m → b ≡ false → b ≡ loses t unit sender p → v ≡ mapOf (p + 1) (loses t unit sender)
+    losers-skip d h f = d ∙ e ∙ mapOf-skip p (loses t unit sender) (answered-false f h)
+
+    pub losers-end : p ≤ 8 → 8 ≤ p → m ≡ losersOf t unit sender
+    unfolding losersOf
+    losers-end h l = e ∙ rw (le-antisymm h l)
+
+pub ruleset loser-loop = (losers-start, losers-fit, losers-end)

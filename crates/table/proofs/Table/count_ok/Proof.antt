@@ -1,0 +1,16 @@
+-- `Table::count_ok` meets its contract. Assumes nothing.
+use Rattle.table.specs.Sound.{countOk}
+use Rattle.table.proofs.Checking.{ways}
+use Rattle.table.proofs.Table.count_ok.Statement.{statement}
+use Rattle.table.proofs.Table.count_ok.Tie as tie
+
+returns : tie.Need-returns
+unfolding countOk
+returns c = search ways
+
+returns-2 : tie.Need-returns-2
+unfolding countOk
+returns-2 c = search ways
+
+pub count-ok-spec : {M : Type 1} → statement M
+count-ok-spec = tie.close (tie.spec returns returns-2)

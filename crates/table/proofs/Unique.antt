@@ -1,0 +1,35 @@
+-- The outcomes are one: each by the law that an equation determines its left side. Assumes nothing.
+use Rattle.task.proofs.Promises.{determined}
+use Rattle.table.specs.Unique.{OutcomesAreOne}
+
+pub outcomes-are-one : OutcomesAreOne
+outcomes-are-one = record {
+  no-path = λ _ _. determined;
+  no-unit = λ _ _. determined;
+  bit-of = λ _ _ _ _. determined;
+  path-of = λ _ _ _ _. determined;
+  path-at = λ _ _ _ _. determined;
+  unit-at = λ _ _ _ _. determined;
+  is-attached = λ _ _ _ _. determined;
+  mark = λ _ _ _ _ _. determined;
+  attend = λ _ _ _ _. determined;
+  alarm = λ _ _ _ _ _. determined;
+  warn = λ _ _ _ _. determined;
+  claim = λ _ _ _ _ _. determined;
+  clear-aca = λ _ _ _ _. determined;
+  pick = λ _ _ _ _. determined;
+  any = λ _ _ _ _. determined;
+  task-at = λ _ _ _ _. determined;
+  has-room = λ _ _ _. determined;
+  accept = λ _ _ _ _ _ _ _. determined;
+  end = λ _ _ _ _. determined;
+  start = λ _ _ _ _. determined;
+  finish = λ _ _ _ _ _. determined;
+  reset = λ _ _ _. determined;
+  losers = λ _ _ _ _ _. determined;
+  bad-list = λ _ _ _. determined;
+  zero = λ _ _. determined;
+  new = λ _ _ _ _ _. determined;
+  owned-by = λ _ _ _ _. determined;
+  sound = λ _ _ _. determined;
+}

@@ -1,0 +1,66 @@
+-- `paths::alarm` meets its contract. The loop's invariant: the listed paths below p are alarmed, the others as they were. Assumes nothing.
+use Prim.Native.Nat.{_≤_, _-_}
+use mathlib.Core.Path.{_≡_}
+use mathlib.Core.Logic.{⊎-elim}
+use native.Mathlib.Omega.{arith}
+use lib.Dec.{ltb}
+use borrow.Author.Needs.{needs}
+use Rattle.table.proofs.Lists.{unmapped}
+use Rattle.table.proofs.Changing.{pathsBelow, path-loop, paths-end}
+use Rattle.table.specs.Tables.{alarmedPath, alarmedIn}
+use Rattle.table.proofs.paths.alarm.Statement.{statement}
+use Rattle.table.proofs.paths.alarm.Tie as tie
+
+abbrev Inv-loop : tie.InvT-loop
+Inv-loop count unmark paths₀ n p₀ paths p = (p ≤ 8) × (paths ≡ pathsBelow paths₀ (λ k. ltb k n) (alarmedPath unmark) p)
+
+abbrev μ-loop : tie.MeasureT-loop
+μ-loop count unmark paths₀ n p₀ paths p = 8 - p
+
+loop-holds : tie.Need-loop-holds Inv-loop μ-loop
+loop-holds c = (omega arith, search path-loop)
+
+mul-a : tie.Need-mul-a Inv-loop μ-loop
+mul-a c = search needs
+
+array-copy-out-a : tie.Need-array-copy-out-a Inv-loop μ-loop
+array-copy-out-a c = search needs
+
+alarm-path-requires : tie.Need-alarm-path-requires Inv-loop μ-loop
+alarm-path-requires c κs = search needs
+
+mul-paths : tie.Need-mul-paths Inv-loop μ-loop
+mul-paths c = search needs
+
+array-set-from-paths : tie.Need-array-set-from-paths Inv-loop μ-loop
+array-set-from-paths c = search needs
+
+add-p : tie.Need-add-p Inv-loop μ-loop
+add-p c = search needs
+
+loop-less : tie.Need-loop-less Inv-loop μ-loop
+loop-less c = search needs
+
+loop-again : tie.Need-loop-again Inv-loop μ-loop
+loop-again c = ⊎-elim (λ w. (omega arith, search (needs, path-loop))) (λ w. (omega arith, search (needs, path-loop))) (c .if1 .came)
+
+returns : tie.Need-returns Inv-loop μ-loop
+unfolding alarmedIn
+returns c = paths-end _ _ _ _ (c .before .loop .inv .1) (omega arith) (omega arith) (search (needs, unmapped))
+
+pub alarm-spec : {M : Type 1} → statement M
+alarm-spec =
+    tie.close
+    (tie.spec
+    Inv-loop
+    μ-loop
+    loop-holds
+    mul-a
+    array-copy-out-a
+    alarm-path-requires
+    mul-paths
+    array-set-from-paths
+    add-p
+    loop-less
+    loop-again
+    returns)

@@ -1,0 +1,69 @@
+-- `paths::warn` meets its contract. The loop's invariant: the paths of the map below p are warned, the others as they were. Assumes nothing.
+use Prim.Native.Nat.{_≤_, _-_}
+use mathlib.Core.Path.{_≡_}
+use mathlib.Core.Logic.{⊎-elim}
+use native.Mathlib.Omega.{arith}
+use borrow.Author.Needs.{needs}
+use Rattle.table.proofs.Lists.{unmapped}
+use Rattle.table.proofs.Changing.{pathsBelow, path-loop, paths-end}
+use Rattle.table.specs.Tables.{bitOf, warnedPath, warnedIn}
+use Rattle.table.proofs.paths.warn.Statement.{statement}
+use Rattle.table.proofs.paths.warn.Tie as tie
+
+abbrev Inv-loop : tie.InvT-loop
+Inv-loop losers paths₀ p₀ paths p = (p ≤ 8) × (paths ≡ pathsBelow paths₀ (bitOf losers) warnedPath p)
+
+abbrev μ-loop : tie.MeasureT-loop
+μ-loop losers paths₀ p₀ paths p = 8 - p
+
+loop-holds : tie.Need-loop-holds Inv-loop μ-loop
+loop-holds c = (omega arith, search path-loop)
+
+bit-of-requires : tie.Need-bit-of-requires Inv-loop μ-loop
+bit-of-requires c κs = search needs
+
+mul-a : tie.Need-mul-a Inv-loop μ-loop
+mul-a c = search needs
+
+array-copy-out-a : tie.Need-array-copy-out-a Inv-loop μ-loop
+array-copy-out-a c = search needs
+
+warn-path-requires : tie.Need-warn-path-requires Inv-loop μ-loop
+warn-path-requires c κs = search needs
+
+mul-paths : tie.Need-mul-paths Inv-loop μ-loop
+mul-paths c = search needs
+
+array-set-from-paths : tie.Need-array-set-from-paths Inv-loop μ-loop
+array-set-from-paths c = search needs
+
+add-p : tie.Need-add-p Inv-loop μ-loop
+add-p c = search needs
+
+loop-less : tie.Need-loop-less Inv-loop μ-loop
+loop-less c = search needs
+
+loop-again : tie.Need-loop-again Inv-loop μ-loop
+loop-again c = ⊎-elim (λ w. (omega arith, search (needs, path-loop))) (λ w. (omega arith, search (needs, path-loop))) (c .if1 .came)
+
+returns : tie.Need-returns Inv-loop μ-loop
+unfolding warnedIn
+returns c = paths-end _ _ _ _ (c .before .loop .inv .1) (omega arith) (omega arith) (search (needs, unmapped))
+
+pub warn-spec : {M : Type 1} → statement M
+warn-spec =
+    tie.close
+    (tie.spec
+    Inv-loop
+    μ-loop
+    loop-holds
+    bit-of-requires
+    mul-a
+    array-copy-out-a
+    warn-path-requires
+    mul-paths
+    array-set-from-paths
+    add-p
+    loop-less
+    loop-again
+    returns)

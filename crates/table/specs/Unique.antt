@@ -1,0 +1,46 @@
+-- Each public function's contract determines its outcome: two outcomes that are each what it says are equal.
+use Prim.Native.Nat.{ℕ}
+use mathlib.Core.Bool.{Bool}
+use mathlib.Core.List.{List}
+use Rattle.task.specs.Promises.{One}
+use Rattle.task.specs.declared.Kind.{Kind}
+use Rattle.task.specs.declared.Task.{Task}
+use Rattle.task.specs.declared.select.Selection.{Selection}
+use Rattle.task.specs.declared.select.Place.{Place}
+use Rattle.table.specs.Tables.{noPath, noUnit, zeroTable, pathAt, unitAt, taskAt, bitOf, isAttached, pathOf, anyLive, pickOf, hasRoom, accepted, endedBy, started, markedIn, attendedIn, alarmedIn, warnedIn, claimedIn, acaClearedIn, losersOf, finished, resetOf}
+use Rattle.table.specs.Setup.{badList, setupTable}
+use Rattle.table.specs.Sound.{ownedBy, soundOf}
+use Rattle.table.specs.declared.Aca.{Aca}
+use Rattle.table.specs.declared.Path as path
+use Rattle.table.specs.declared.Unit as unit
+use Rattle.table.specs.declared.Table.{Table}
+
+pub record OutcomesAreOne : Type 0 where
+  pub no-path : One noPath
+  pub no-unit : One noUnit
+  pub bit-of : (map i : ℕ) → One (bitOf map i)
+  pub path-of : (t : Table) (id : ℕ) → One (pathOf t id)
+  pub path-at : (t : Table) (p : ℕ) → One (pathAt t p)
+  pub unit-at : (t : Table) (unit : ℕ) → One (unitAt t unit)
+  pub is-attached : (t : Table) (unit : ℕ) → One (isAttached t unit)
+  pub mark : (paths : List path.Path) (p : ℕ) (full : Bool) → One (markedIn paths p full)
+  pub attend : (paths : List path.Path) (p : ℕ) → One (attendedIn paths p)
+  pub alarm : (paths : List path.Path) (count : ℕ) (unmark : Bool) → One (alarmedIn paths count unmark)
+  pub warn : (paths : List path.Path) (losers : ℕ) → One (warnedIn paths losers)
+  pub claim : (units : List unit.Unit) (unit path : ℕ) → One (claimedIn units unit path)
+  pub clear-aca : (units : List unit.Unit) (place : Place) → One (acaClearedIn units place)
+  pub pick : (t : Table) (s : Selection) → One (pickOf t s)
+  pub any : (t : Table) (s : Selection) → One (anyLive t s)
+  pub task-at : (t : Table) (i : ℕ) → One (taskAt t i)
+  pub has-room : (t : Table) → One (hasRoom t)
+  pub accept : (t : Table) (path tag unit : ℕ) (kind : Kind) → One (accepted t path tag unit kind)
+  pub end : (t : Table) (s : Selection) → One (endedBy t s)
+  pub start : (t : Table) (i : ℕ) → One (started t i)
+  pub finish : (t : Table) (a : Task) (failed : Bool) → One (finished t a failed)
+  pub reset : (t : Table) → One (resetOf t)
+  pub losers : (t : Table) (unit sender : ℕ) → One (losersOf t unit sender)
+  pub bad-list : (ids : List ℕ) → One (badList ids)
+  pub zero : One zeroTable
+  pub new : (ids : List ℕ) (attached first : ℕ) → One (setupTable ids attached first)
+  pub owned-by : (aca : Aca) (path : ℕ) → One (ownedBy aca path)
+  pub sound : (t : Table) → One (soundOf t)

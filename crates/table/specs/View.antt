@@ -1,0 +1,27 @@
+-- What a table means: the task that is live at a place, and sums over the live tasks.
+use Prim.Native.Nat.{ℕ}
+use mathlib.Core.Bool.{cond}
+use mathlib.Core.Option.{Option, none, some}
+use lib.Dec.{eqb}
+use Rattle.task.specs.Index.{sum, one}
+use Rattle.task.specs.Map.{isLive}
+use Rattle.task.specs.declared.Task.{Task}
+use Rattle.table.specs.Tables.{taskAt}
+use Rattle.table.specs.declared.Table.{Table}
+
+-- the task that is live in record i
+unfoldable pub at : Table → ℕ → Option Task
+at t i = cond (isLive (t .live) i) (some (taskAt t i)) none
+
+-- what a record weighs, by a weight of tasks: nothing where it is dead
+abbrev pub weightAt : (Task → ℕ) → Option Task → ℕ
+weightAt f none = 0
+weightAt f (some a) = f a
+
+-- the weight of all live tasks
+unfoldable pub weight : (Task → ℕ) → Table → ℕ
+weight f t = sum 64 (λ i. weightAt f (at t i))
+
+-- how many live tasks a path has
+abbrev pub liveOf : ℕ → Table → ℕ
+liveOf path t = weight (λ a. one (eqb (a .path) path)) t

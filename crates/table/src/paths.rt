@@ -1,0 +1,256 @@
+// Paths and units: what the rules ask of them, and how they change. A bad index changes nothing.
+ghost use mathlib.Core.Path.{_≡_};
+ghost use Rattle.table.specs.Tables;
+ghost use Rattle.table.specs.Tables.{pathAt, unitAt, hasId, placeOf, pathOf, isAttached, isNothing, isReset, markedIn, attendedIn, alarmedPath, alarmedIn, warnedPath, warnedIn, claimedIn, acaClearedIn};
+use crate::Aca;
+use crate::Attention;
+use crate::PATHS;
+use crate::Path;
+use crate::Table;
+use crate::UNITS;
+use crate::Unit;
+use task::select::Place;
+
+// A path and a unit wiped to zero.
+pub fn no_path() -> Path
+    ensures { λ r. ⌜ r ≡ Tables.noPath ⌝ }
+{
+    Path {
+        id: 0,
+        full: false,
+        attention: Attention::Nothing,
+    }
+}
+
+pub fn no_unit() -> Unit
+    ensures { λ r. ⌜ r ≡ Tables.noUnit ⌝ }
+{
+    Unit { aca: Aca::Clear }
+}
+
+// Whether bit i of a byte is 1; there is none past 7.
+pub fn bit_of(map: u8, i: usize) -> bool
+    ensures { λ r. ⌜ r ≡ Tables.bitOf map i ⌝ }
+{
+    if i >= 8 {
+        return false;
+    }
+    (map >> i) % 2 == 1
+}
+
+pub(crate) fn is_nothing(a: Attention) -> bool
+    ensures { λ r. ⌜ r ≡ isNothing a ⌝ }
+{
+    match a {
+        Attention::Nothing => true,
+        Attention::Reset => false,
+        Attention::Cleared => false,
+    }
+}
+
+fn reset_pending(a: Attention) -> bool
+    ensures { λ r. ⌜ r ≡ isReset a ⌝ }
+{
+    match a {
+        Attention::Nothing => false,
+        Attention::Reset => true,
+        Attention::Cleared => false,
+    }
+}
+
+// The path with reset attention, and with `unmark` its mark gone.
+fn alarm_path(a: Path, unmark: bool) -> Path
+    ensures { λ r. ⌜ r ≡ alarmedPath unmark a ⌝ }
+{
+    if unmark {
+        return Path {
+            full: false,
+            attention: Attention::Reset,
+            ..a
+        };
+    }
+    Path {
+        attention: Attention::Reset,
+        ..a
+    }
+}
+
+// The path with cleared attention, unless reset is pending.
+fn warn_path(a: Path) -> Path
+    ensures { λ r. ⌜ r ≡ warnedPath a ⌝ }
+{
+    let pending = a.attention;
+    if reset_pending(pending) {
+        return a;
+    }
+    Path {
+        attention: Attention::Cleared,
+        ..a
+    }
+}
+
+// The place of an id among the first `count` of the paths, or 8.
+pub(crate) fn place_of(paths: [Path; 8], count: u8, id: u32) -> usize
+    ensures { λ r. ⌜ r ≡ placeOf paths count id ⌝ }
+{
+    let count = count as usize;
+    let mut p: usize = 0;
+    while p < PATHS {
+        let a = paths[p];
+        if has_id(count, id, p, a) {
+            return p;
+        }
+        p += 1;
+    }
+    PATHS
+}
+
+// Whether the path a at place p is listed and has the id.
+fn has_id(count: usize, id: u32, p: usize, a: Path) -> bool
+    ensures { λ r. ⌜ r ≡ hasId count id p a ⌝ }
+{
+    if p < count {
+        return a.id == id;
+    }
+    false
+}
+
+// The path's mark set or cleared.
+pub fn mark(mut paths: [Path; 8], p: usize, full: bool) -> [Path; 8]
+    ensures { λ r. ⌜ r ≡ markedIn paths p full ⌝ }
+{
+    if p >= PATHS {
+        return paths;
+    }
+    let a = paths[p];
+    let b = Path { full, ..a };
+    paths[p] = b;
+    paths
+}
+
+// The path's pending attention becomes none.
+pub fn attend(mut paths: [Path; 8], p: usize) -> [Path; 8]
+    ensures { λ r. ⌜ r ≡ attendedIn paths p ⌝ }
+{
+    if p >= PATHS {
+        return paths;
+    }
+    let a = paths[p];
+    let b = Path {
+        attention: Attention::Nothing,
+        ..a
+    };
+    paths[p] = b;
+    paths
+}
+
+// Reset attention on each of the first `count` paths, and with `unmark` its mark gone.
+pub fn alarm(mut paths: [Path; 8], count: u8, unmark: bool) -> [Path; 8]
+    ensures { λ r. ⌜ r ≡ alarmedIn paths count unmark ⌝ }
+{
+    let n = count as usize;
+    let mut p: usize = 0;
+    while p < PATHS {
+        if p < n {
+            let a = paths[p];
+            let b = alarm_path(a, unmark);
+            paths[p] = b;
+        }
+        p += 1;
+    }
+    paths
+}
+
+// Cleared attention on each path of the map, unless reset is pending.
+pub fn warn(mut paths: [Path; 8], losers: u8) -> [Path; 8]
+    ensures { λ r. ⌜ r ≡ warnedIn paths losers ⌝ }
+{
+    let mut p: usize = 0;
+    while p < PATHS {
+        if bit_of(losers, p) {
+            let a = paths[p];
+            let b = warn_path(a);
+            paths[p] = b;
+        }
+        p += 1;
+    }
+    paths
+}
+
+// The unit's ACA is the path's, unless it has one.
+pub fn claim(mut units: [Unit; 8], unit: u8, path: u8) -> [Unit; 8]
+    ensures { λ r. ⌜ r ≡ claimedIn units unit path ⌝ }
+{
+    let u = unit as usize;
+    if u >= UNITS {
+        return units;
+    }
+    let a = units[u];
+    let aca = a.aca;
+    match aca {
+        Aca::Owned(_) => units,
+        Aca::Clear => {
+            let b = Unit {
+                aca: Aca::Owned(path),
+            };
+            units[u] = b;
+            units
+        }
+    }
+}
+
+// The unit's ACA goes, or that of every unit.
+pub fn clear_aca(mut units: [Unit; 8], place: Place) -> [Unit; 8]
+    ensures { λ r. ⌜ r ≡ acaClearedIn units place ⌝ }
+{
+    let none = no_unit();
+    match place {
+        Place::Anywhere => [none; 8],
+        Place::On(unit) => {
+            let u = unit as usize;
+            if u >= UNITS {
+                return units;
+            }
+            units[u] = none;
+            units
+        }
+    }
+}
+
+impl Table {
+    // The place of an id among the listed paths, or 8.
+    pub fn path_of(self, id: u32) -> usize
+        ensures { λ r. ⌜ r ≡ pathOf self id ⌝ }
+    {
+        let paths = self.paths;
+        place_of(paths, self.count, id)
+    }
+
+    // The path at a place, and a wiped one past the end.
+    pub fn path_at(self, p: usize) -> Path
+        ensures { λ r. ⌜ r ≡ pathAt self p ⌝ }
+    {
+        if p >= PATHS {
+            return no_path();
+        }
+        self.paths[p]
+    }
+
+    // A unit, and a wiped one past the end.
+    pub fn unit_at(self, unit: u8) -> Unit
+        ensures { λ r. ⌜ r ≡ unitAt self unit ⌝ }
+    {
+        let u = unit as usize;
+        if u >= UNITS {
+            return no_unit();
+        }
+        self.units[u]
+    }
+
+    // Whether the unit is attached.
+    pub fn is_attached(self, unit: u8) -> bool
+        ensures { λ r. ⌜ r ≡ isAttached self unit ⌝ }
+    {
+        bit_of(self.attached, unit as usize)
+    }
+}

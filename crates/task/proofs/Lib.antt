@@ -1,0 +1,15 @@
+-- The laws that the crates above cite; the cases of this crate's own functions.
+pub mod Ways
+pub mod Places
+pub mod Bits
+pub mod Maps
+pub mod Lists
+pub mod Loops
+pub mod Clearing
+pub mod Selecting
+pub mod Scanning
+pub mod Next
+pub mod Promises
+mod Cases
+pub mod Walking
+pub mod Lending

@@ -1,0 +1,216 @@
+-- Laws of places below a bound: `first`, `some`, `all`, `sum` and `count`, by what holds at each place. Assumes nothing.
+use Prim.Native.Nat.{ℕ, zero, suc, _+_, _≤_, _<_, suc-le-suc}
+use mathlib.Core.Path.{_≡_, refl, sym, ap, ap₂, _∙_}
+use mathlib.Core.Bool.{Bool, true, false, cond, not, _||_, _&&_, or-true, and-false}
+use mathlib.Core.Logic.{_⊎_, inl, inr, ⊎-elim}
+use native.Mathlib.Nat.{le-of-suc-le-suc, eq-or-lt-of-le}
+use native.Mathlib.Omega.{arith}
+use lib.Dec.{ltb}
+use borrow.Author.Tests.{ltb-true, ltb-false}
+use Rattle.task.specs.Index.{first, some, all, sum, one, count, mapOf}
+use Rattle.task.proofs.Ways.{cond-ind, either-way, never}
+
+-- a place below n + 1 is n, or below n
+pub below-suc : {i n : ℕ} → i < suc n → (i ≡ n) ⊎ (i < n)
+below-suc h = eq-or-lt-of-le (le-of-suc-le-suc h)
+
+pub lt-or-le : (i k : ℕ) → (i < k) ⊎ (k ≤ i)
+lt-or-le i k = elim (either-way (ltb i k)) [ inl h ↦ inl (ltb-true i k h) | inr h ↦ inr (ltb-false i k h) ]
+
+-- ---- first
+
+pub first-le : (n : ℕ) (p : ℕ → Bool) → first n p ≤ n
+unfolding first
+first-le zero p = omega arith
+first-le (suc n) p = cond-ind (λ (x : ℕ). x ≤ suc n) (p zero) (λ _. omega arith) (λ _. suc-le-suc (first-le n _))
+
+before-step : (p : ℕ → Bool) (x i : ℕ) → p zero ≡ false → ((k : ℕ) → k < x → p (suc k) ≡ false) → i < suc x → p i ≡ false
+before-step p x zero e r l = e
+before-step p x (suc i) e r l = r i (le-of-suc-le-suc l)
+
+-- nothing is picked before the first
+pub first-before : (n i : ℕ) (p : ℕ → Bool) → i < first n p → p i ≡ false
+unfolding first
+first-before zero i p l = absurd (omega arith)
+first-before (suc n) i p l =
+    cond-ind (λ (x : ℕ). i < x → p i ≡ false) (p zero) (λ _ m. absurd (omega arith))
+    (λ e. before-step p (first n (λ k. p (suc k))) i e (λ k m. first-before n k (λ k. p (suc k)) m)) l
+
+-- the first is picked, where it is below the bound
+pub first-picks : (n : ℕ) (p : ℕ → Bool) → first n p < n → p (first n p) ≡ true
+unfolding first
+first-picks zero p l = absurd (omega arith)
+first-picks (suc n) p l =
+    cond-ind (λ (x : ℕ). x < suc n → p x ≡ true) (p zero) (λ e _. e) (λ _ m. first-picks n (λ k. p (suc k)) (le-of-suc-le-suc m)) l
+
+-- a place that is picked, with none before it, is the first
+pub first-is : (n i : ℕ) (p : ℕ → Bool) → i < n → p i ≡ true → ((k : ℕ) → k < i → p k ≡ false) → first n p ≡ i
+unfolding first
+first-is zero i p l h b = absurd (omega arith)
+first-is (suc n) zero p l h b = rw h
+first-is (suc n) (suc i) p l h b =
+    rw (b zero (omega arith)) (ap suc (first-is n i (λ k. p (suc k)) (le-of-suc-le-suc l) h (λ k m. b (suc k) (suc-le-suc m))))
+
+-- it is the bound where none is picked, and only there
+pub first-none : (n : ℕ) (p : ℕ → Bool) → ((k : ℕ) → k < n → p k ≡ false) → first n p ≡ n
+unfolding first
+first-none zero p b = refl
+first-none (suc n) p b = rw (b zero (omega arith)) (ap suc (first-none n (λ k. p (suc k)) (λ k m. b (suc k) (suc-le-suc m))))
+
+pub none-first : (n k : ℕ) (p : ℕ → Bool) → first n p ≡ n → k < n → p k ≡ false
+none-first n k p e l = first-before n k p (rw e l)
+
+pub first-ext : (n : ℕ) (p q : ℕ → Bool) → ((i : ℕ) → i < n → p i ≡ q i) → first n p ≡ first n q
+unfolding first
+first-ext zero p q h = refl
+first-ext (suc n) p q h =
+    ap₂ (λ (b : Bool) (x : ℕ). cond b zero (suc x)) (h zero (omega arith)) (first-ext n (λ k. p (suc k)) (λ k. q (suc k)) (λ i l. h (suc i) (suc-le-suc l)))
+
+-- ---- some
+
+pub some-at : (n i : ℕ) (p : ℕ → Bool) → i < n → p i ≡ true → some n p ≡ true
+unfolding some
+some-at zero i p l e = absurd (omega arith)
+some-at (suc n) i p l e =
+    ⊎-elim (λ q. ap (λ (b : Bool). some n p || b) (ap p (sym q) ∙ e) ∙ or-true (some n p))
+    (λ m. ap (λ (b : Bool). b || p n) (some-at n i p m e)) (below-suc l)
+
+pub some-find : (n : ℕ) (p : ℕ → Bool) → some n p ≡ true → (i : ℕ) × (i < n) × (p i ≡ true)
+unfolding some
+some-find zero p e = absurd (never e refl)
+some-find (suc n) p e = elim (either-way (p n)) [
+  | inl h ↦ (n, omega arith, h)
+  | inr h ↦ let r : (i : ℕ) × (i < n) × (p i ≡ true) = some-find n p (last (some n p) h e) in (r .0, omega (arith, r .1), r .2)
+]
+  where
+    last : (b : Bool) {c : Bool} → c ≡ false → (b || c) ≡ true → b ≡ true
+    last true h e = refl
+    last false h e = sym h ∙ e
+
+pub some-none : (n : ℕ) (p : ℕ → Bool) → ((i : ℕ) → i < n → p i ≡ false) → some n p ≡ false
+unfolding some
+some-none zero p h = refl
+some-none (suc n) p h = ap₂ _||_ (some-none n p (λ i l. h i (omega arith))) (h n (omega arith))
+
+pub none-at : (n i : ℕ) (p : ℕ → Bool) → some n p ≡ false → i < n → p i ≡ false
+none-at n i p e l = elim (either-way (p i)) [ inl h ↦ absurd (never (some-at n i p l h) e) | inr h ↦ h ]
+
+pub some-ext : (n : ℕ) (p q : ℕ → Bool) → ((i : ℕ) → i < n → p i ≡ q i) → some n p ≡ some n q
+unfolding some
+some-ext zero p q h = refl
+some-ext (suc n) p q h = ap₂ _||_ (some-ext n p q (λ i l. h i (omega arith))) (h n (omega arith))
+
+-- ---- all
+
+not-or : (b c : Bool) → not (b || c) ≡ (not b && not c)
+not-or true c = refl
+not-or false c = refl
+
+pub not-some-is-all : (n : ℕ) (p : ℕ → Bool) → not (some n p) ≡ all n (λ i. not (p i))
+unfolding some all
+not-some-is-all zero p = refl
+not-some-is-all (suc n) p = not-or (some n p) (p n) ∙ ap (λ (b : Bool). b && not (p n)) (not-some-is-all n p)
+
+pub all-of : (n : ℕ) (p : ℕ → Bool) → ((i : ℕ) → i < n → p i ≡ true) → all n p ≡ true
+unfolding all
+all-of zero p h = refl
+all-of (suc n) p h = ap₂ _&&_ (all-of n p (λ i l. h i (omega arith))) (h n (omega arith))
+
+pub all-off : (n i : ℕ) (p : ℕ → Bool) → i < n → p i ≡ false → all n p ≡ false
+unfolding all
+all-off zero i p l e = absurd (omega arith)
+all-off (suc n) i p l e =
+    ⊎-elim (λ q. ap (λ (b : Bool). all n p && b) (ap p (sym q) ∙ e) ∙ and-false (all n p))
+    (λ m. ap (λ (b : Bool). b && p n) (all-off n i p m e)) (below-suc l)
+
+pub all-at : (n i : ℕ) (p : ℕ → Bool) → all n p ≡ true → i < n → p i ≡ true
+all-at n i p e l = elim (either-way (p i)) [ inl h ↦ h | inr h ↦ absurd (never e (all-off n i p l h)) ]
+
+pub all-ext : (n : ℕ) (p q : ℕ → Bool) → ((i : ℕ) → i < n → p i ≡ q i) → all n p ≡ all n q
+unfolding all
+all-ext zero p q h = refl
+all-ext (suc n) p q h = ap₂ _&&_ (all-ext n p q (λ i l. h i (omega arith))) (h n (omega arith))
+
+-- ---- sum and count
+
+pub sum-ext : (n : ℕ) (f g : ℕ → ℕ) → ((i : ℕ) → i < n → f i ≡ g i) → sum n f ≡ sum n g
+unfolding sum
+sum-ext zero f g h = refl
+sum-ext (suc n) f g h = ap₂ _+_ (sum-ext n f g (λ i l. h i (omega arith))) (h n (omega arith))
+
+pub sum-le : (n : ℕ) (f g : ℕ → ℕ) → ((i : ℕ) → i < n → f i ≤ g i) → sum n f ≤ sum n g
+unfolding sum
+sum-le zero f g h = omega arith
+sum-le (suc n) f g h = omega (arith, sum-le n f g (λ i l. h i (omega arith)), h n (omega arith))
+
+pub sum-add : (n : ℕ) (f g : ℕ → ℕ) → sum n (λ i. f i + g i) ≡ sum n f + sum n g
+unfolding sum
+sum-add zero f g = refl
+sum-add (suc n) f g = omega (arith, sum-add n f g)
+
+pub sum-zero : (n : ℕ) (f : ℕ → ℕ) → ((i : ℕ) → i < n → f i ≡ 0) → sum n f ≡ 0
+unfolding sum
+sum-zero zero f h = refl
+sum-zero (suc n) f h = omega (arith, sum-zero n f (λ i l. h i (omega arith)), h n (omega arith))
+
+-- no place weighs more than the sum, so a sum that is 0 is 0 at each place
+pub sum-at : (n i : ℕ) (f : ℕ → ℕ) → i < n → f i ≤ sum n f
+unfolding sum
+sum-at zero i f l = absurd (omega arith)
+sum-at (suc n) i f l = ⊎-elim (λ e. rw e (omega arith)) (λ m. omega (arith, sum-at n i f m)) (below-suc l)
+
+-- f and g differ at k alone
+pub sum-change : (n k : ℕ) (f g : ℕ → ℕ) → k < n → ((i : ℕ) → i < n → (i ≡ k → ⊥) → f i ≡ g i) → sum n f + g k ≡ sum n g + f k
+unfolding sum
+sum-change zero k f g l h = absurd (omega arith)
+sum-change (suc n) k f g l h =
+    ⊎-elim (λ e. rw e (omega (arith, sum-ext n f g (λ i m. h i (omega arith) (λ q. absurd (omega arith))))))
+    (λ m. omega (arith, sum-change n k f g m (λ i r. h i (omega arith)), h n (omega arith) (λ q. absurd (omega arith)))) (below-suc l)
+
+-- the sum from the lowest place up
+pub sum-suc : (n : ℕ) (f : ℕ → ℕ) → sum (suc n) f ≡ f zero + sum n (λ i. f (suc i))
+unfolding sum
+sum-suc zero f = omega arith
+sum-suc (suc n) f = ap (λ (x : ℕ). x + f (suc n)) (sum-suc n f) ∙ omega arith
+
+one-le : (b : Bool) → one b ≤ 1
+one-le true = omega arith
+one-le false = omega arith
+
+pub count-le : (n : ℕ) (p : ℕ → Bool) → count n p ≤ n
+unfolding sum
+count-le zero p = omega arith
+count-le (suc n) p = omega (arith, count-le n p, one-le (p n))
+
+pub count-ext : (n : ℕ) (p q : ℕ → Bool) → ((i : ℕ) → i < n → p i ≡ q i) → count n p ≡ count n q
+count-ext n p q h = sum-ext n (λ i. one (p i)) (λ i. one (q i)) (λ i l. ap one (h i l))
+
+one-or : (b c : Bool) → (b && c) ≡ false → one (b || c) ≡ one b + one c
+one-or true true h = absurd (never refl h)
+one-or true false h = refl
+one-or false c h = omega arith
+
+-- what p picks or q picks, where no place is picked by both
+pub count-or : (n : ℕ) (p q : ℕ → Bool) → ((i : ℕ) → i < n → (p i && q i) ≡ false) → count n (λ i. p i || q i) ≡ count n p + count n q
+count-or n p q h =
+    sum-ext n (λ i. one (p i || q i)) (λ i. one (p i) + one (q i)) (λ i l. one-or (p i) (q i) (h i l))
+    ∙ sum-add n (λ i. one (p i)) (λ i. one (q i))
+
+one-split : (b c : Bool) → one b ≡ one (b && c) + one (b && not c)
+one-split true true = refl
+one-split true false = refl
+one-split false c = refl
+
+-- what p picks, parted by q
+pub count-split : (n : ℕ) (p q : ℕ → Bool) → count n p ≡ count n (λ i. p i && q i) + count n (λ i. p i && not (q i))
+count-split n p q =
+    sum-ext n (λ i. one (p i)) (λ i. one (p i && q i) + one (p i && not (q i))) (λ i _. one-split (p i) (q i))
+    ∙ sum-add n (λ i. one (p i && q i)) (λ i. one (p i && not (q i)))
+
+-- ---- mapOf
+
+pub mapOf-ext : (n : ℕ) (p q : ℕ → Bool) → ((i : ℕ) → i < n → p i ≡ q i) → mapOf n p ≡ mapOf n q
+unfolding mapOf
+mapOf-ext zero p q h = refl
+mapOf-ext (suc n) p q h =
+    omega (arith, ap one (h zero (omega arith)), mapOf-ext n (λ i. p (suc i)) (λ i. q (suc i)) (λ i l. h (suc i) (suc-le-suc l)))

@@ -1,0 +1,65 @@
+// A task's record, the map of live records, which tasks a selection picks, and the scan of lent records. It knows no message and no table.
+ghost use mathlib.Core.Path.{_≡_};
+ghost use Rattle.task.specs.Tasks.{noTask, kindNumber, phaseNumber};
+
+pub mod map;
+pub mod scan;
+pub mod select;
+
+// How a task is queued. The first is the zero of a wiped record, here and in Phase.
+pub enum Kind {
+    Aca,
+    Head,
+    Ordered,
+    Simple,
+}
+
+pub enum Phase {
+    Waiting,
+    Running,
+}
+
+// A task's record, 16 bytes: fields lie in the order written, the widest first. The path is its place in the path list.
+pub struct Task {
+    pub arrival: u64,
+    pub tag: u16,
+    pub path: u8,
+    pub unit: u8,
+    pub kind: Kind,
+    pub phase: Phase,
+}
+
+// The record wiped to zero.
+pub fn no_task() -> Task
+    ensures { λ r. ⌜ r ≡ noTask ⌝ }
+{
+    Task {
+        arrival: 0,
+        tag: 0,
+        path: 0,
+        unit: 0,
+        kind: Kind::Aca,
+        phase: Phase::Waiting,
+    }
+}
+
+// The number of a kind in QUEUE CNTL.
+pub fn kind_number(k: Kind) -> u8
+    ensures { λ r. ⌜ r ≡ kindNumber k ⌝ }
+{
+    match k {
+        Kind::Aca => 0,
+        Kind::Head => 1,
+        Kind::Ordered => 2,
+        Kind::Simple => 3,
+    }
+}
+
+pub fn phase_number(p: Phase) -> u8
+    ensures { λ r. ⌜ r ≡ phaseNumber p ⌝ }
+{
+    match p {
+        Phase::Waiting => 0,
+        Phase::Running => 1,
+    }
+}

@@ -1,0 +1,184 @@
+// The messages that are received: a table of their codes, lengths and reserved bits, and the reader that goes by it.
+ghost use mathlib.Core.Path.{_≡_};
+ghost use Rattle.wire.specs.Fields;
+ghost use Rattle.wire.specs.Messages.{flagsOf, rowOf, fieldsOf, readOf, reservedSet};
+use crate::codes::Queue;
+use crate::codes::Refusal;
+use crate::fields::byte_at;
+use crate::fields::long;
+use crate::fields::word;
+
+// Byte 10 of a command.
+pub struct Flags {
+    pub ddrm: bool,
+    pub oot: bool,
+    pub resume: bool,
+    pub confirm: bool,
+    pub queue: Queue,
+}
+
+// A received message with its fields, or the refusal.
+pub enum Message {
+    Command {
+        tag: u16,
+        path: u32,
+        lun: u8,
+        flags: Flags,
+    },
+    AbortTask {
+        tag: u16,
+        path: u32,
+        tag2: u16,
+    },
+    AbortTaskSet {
+        tag: u16,
+        path: u32,
+        lun: u8,
+    },
+    ClearTaskSet {
+        tag: u16,
+        path: u32,
+        lun: u8,
+    },
+    TargetReset {
+        tag: u16,
+        path: u32,
+    },
+    ClearAca {
+        tag: u16,
+        path: u32,
+        lun: u8,
+    },
+    UnitReset {
+        tag: u16,
+        path: u32,
+        lun: u8,
+    },
+    Refused(Refusal),
+}
+
+const SMS_CODE: u8 = 0x83;
+
+// The table of messages, a row for each kind: its S3P CODE (table 4), the length needed (tables 5 and 14 to 19) ..
+const ROWS: usize = 7;
+
+const CODES: [u8; 7] = [0x10, 0x30, 0x31, 0x32, 0x33, 0x34, 0x35];
+
+const LEASTS: [usize; 7] = [11, 10, 9, 9, 8, 9, 9];
+
+// .. and the reserved bits of its first 16 bytes: a command has bytes 9, 11, 14 and 15, and bits 3 and 2 of byte 10.
+const WIDTH: usize = 16;
+
+const COMMAND: [u8; 16] = [0, 0, 0, 0, 0, 0, 0, 0, 0, 255, 12, 255, 0, 0, 255, 255];
+
+const NONE: [u8; 16] = [0, 0, 0, 0, 0, 0, 0, 0, 0, 0, 0, 0, 0, 0, 0, 0];
+
+const MASKS: [[u8; 16]; 7] = [COMMAND, NONE, NONE, NONE, NONE, NONE, NONE];
+
+// The row of an S3P CODE, or ROWS where it is not one handled.
+fn row_of(code: u8) -> usize
+    ensures { λ r. ⌜ r ≡ rowOf code ⌝ }
+{
+    let mut row = 0;
+    while row < ROWS {
+        if CODES[row] == code {
+            return row;
+        }
+        row += 1;
+    }
+    ROWS
+}
+
+fn flags_of(b: u8) -> Flags
+    ensures { λ r. ⌜ r ≡ flagsOf b ⌝ }
+{
+    Flags {
+        ddrm: b / 128 == 1,
+        oot: b / 64 % 2 == 1,
+        resume: b / 32 % 2 == 1,
+        confirm: b / 16 % 2 == 1,
+        queue: Queue(b % 4),
+    }
+}
+
+// TAG.
+fn tag_of(m: &[u8]) -> u16
+    ensures { λ r. ⌜ r ≡ Fields.word (now (m .entry)) 2 ⌝ }
+{
+    word(byte_at(m, 2), byte_at(m, 3))
+}
+
+// RETURN PATH ID.
+fn path_of(m: &[u8]) -> u32
+    ensures { λ r. ⌜ r ≡ Fields.long (now (m .entry)) 4 ⌝ }
+{
+    long(
+        word(byte_at(m, 4), byte_at(m, 5)),
+        word(byte_at(m, 6), byte_at(m, 7)),
+    )
+}
+
+// The message of a row, with the fields of its table.
+fn fields_of(m: &[u8], row: usize) -> Message
+    ensures { λ r. ⌜ r ≡ fieldsOf row (now (m .entry)) ⌝ }
+{
+    let tag = tag_of(m);
+    let path = path_of(m);
+    let lun = byte_at(m, 8);
+    match row {
+        0 => Message::Command {
+            tag,
+            path,
+            lun,
+            flags: flags_of(byte_at(m, 10)),
+        },
+        1 => Message::AbortTask {
+            tag,
+            path,
+            tag2: word(lun, byte_at(m, 9)),
+        },
+        2 => Message::AbortTaskSet { tag, path, lun },
+        3 => Message::ClearTaskSet { tag, path, lun },
+        4 => Message::TargetReset { tag, path },
+        5 => Message::ClearAca { tag, path, lun },
+        _ => Message::UnitReset { tag, path, lun },
+    }
+}
+
+// The message that the bytes hold, with its fields, or the number of the refusal.
+pub fn read(m: &[u8]) -> Message
+    ensures { λ r. ⌜ r ≡ readOf (now (m .entry)) ⌝ }
+{
+    if m.len() < 2 {
+        return Message::Refused(Refusal::TOO_SHORT);
+    }
+    if m[0] != SMS_CODE {
+        return Message::Refused(Refusal::NOT_HANDLED);
+    }
+    let row = row_of(m[1]);
+    if row == ROWS {
+        return Message::Refused(Refusal::NOT_HANDLED);
+    }
+    if m.len() < LEASTS[row] {
+        return Message::Refused(Refusal::TOO_SHORT);
+    }
+    fields_of(m, row)
+}
+
+// Whether a reserved field of the message is not zero, by the masks of its row.
+pub fn reserved_set(m: &[u8]) -> bool
+    ensures { λ r. ⌜ r ≡ reservedSet (now (m .entry)) ⌝ }
+{
+    let row = row_of(byte_at(m, 1));
+    if row == ROWS {
+        return false;
+    }
+    let mut i = 0;
+    while i < WIDTH {
+        if byte_at(m, i) & MASKS[row][i] != 0 {
+            return true;
+        }
+        i += 1;
+    }
+    false
+}
