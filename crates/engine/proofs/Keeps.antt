@@ -1,0 +1,214 @@
+-- Every call keeps a table good, and setup's table is good. Assumes nothing.
+use Prim.Native.Nat.{ℕ, _<_}
+use mathlib.Core.Path.{_≡_, refl, sym, ap, _∙_}
+use mathlib.Core.Bool.{Bool, true, false, cond, not, _&&_}
+use mathlib.Core.List.{List}
+use native.Mathlib.Omega.{arith}
+use lib.Dec.{eqb}
+use borrow.Author.Tests.{not-false, ltb-true, eq-eqb, eqb-true}
+use Rattle.wire.specs.Paper
+use Rattle.wire.specs.Messages.{reservedSet}
+use Rattle.wire.specs.declared.codes.Queue.{Queue}
+use Rattle.wire.specs.declared.message.Flags.{Flags}
+use Rattle.task.specs.Tasks.{isAca}
+use Rattle.task.specs.Selections.{picks, everyTask, onUnit, acaOn, acaFromOn, runningAs, waitingOn, acaWaitingOn}
+use Rattle.task.specs.declared.Kind.the-variants as kind
+use Rattle.task.specs.declared.Task.{Task}
+use Rattle.task.specs.declared.select.Place.the-variants.{Anywhere, On}
+use Rattle.task.proofs.Ways.{never, cond-ind, both}
+use Rattle.task.proofs.Places.{first-picks}
+use Rattle.task.proofs.Selecting.{meets, picks-every, picks-on, picks-aca-on, picks-aca-from-on}
+use Rattle.table.specs.Tables.{placeOf, pathOf, unitAt, anyLive, withPaths, endedBy, markedIn, alarmedIn}
+use Rattle.table.specs.Sound.{ownedBy}
+use Rattle.table.specs.Promises.{Good, MayCome}
+use Rattle.table.specs.declared.Aca.{Aca}
+use Rattle.table.specs.declared.Aca.the-variants.{Clear, Owned}
+use Rattle.table.specs.declared.Table.{Table}
+use Rattle.table.proofs.Views.{pick-at, none-left}
+use Rattle.table.proofs.Keeps.{accept-keeps, end-keeps, start-keeps as start-task-keeps, clear-keeps, mark-keeps, attend-keeps, alarm-keeps, warn-keeps, finish-keeps as finish-task-keeps, reset-keeps as reset-table-keeps, setup-is-good as setup-table-is-good}
+use Rattle.engine.specs.Rules.{hasAca, factsOf, asksAca, barred, stray, roomRules, fieldRules, unitRules, blockRules, commandRules, accepts, deciding}
+use Rattle.engine.specs.Management.{endsOf, tagOf, unitOf, hasUnit, isClearSet, carriedCode, orderCode, orderPaths, orderUnits}
+use Rattle.engine.specs.Plans.{tagAsked, unitAsked, clearsSet, kindOf, ruled, orderPlan, planOf, inMood, pathsAfter, unitsAfter}
+use Rattle.engine.specs.Calls.{withParts, planAt, acted, carriedOut, choiceOn, setupOf}
+use Rattle.engine.specs.Promises.{MessageKeeps, StartKeeps, FinishKeeps, ResetKeeps, SetupIsGood}
+use Rattle.engine.specs.declared.rules.Facts.{Facts}
+use Rattle.engine.specs.declared.rules.Mood.{Mood}
+use Rattle.engine.specs.declared.rules.Mood.the-variants.{Stay, Mark, Unmark, Attend}
+use Rattle.engine.specs.declared.rules.Ruling.{Ruling}
+use Rattle.engine.specs.declared.rules.Ruling.the-variants.{Refuse, Respond, Report, Accept}
+use Rattle.engine.specs.declared.manage.Order.{Order}
+use Rattle.engine.specs.declared.manage.Order.the-variants.{AbortTask, AbortTaskSet, ClearTaskSet, ClearAca, UnitReset, TargetReset}
+use Rattle.engine.specs.declared.plan.What.{What}
+use Rattle.engine.specs.declared.plan.What.the-variants.{Command, Manage}
+use Rattle.engine.specs.declared.plan.Change.the-variants as change
+use Rattle.engine.specs.declared.plan.Plan.{Plan}
+use Rattle.engine.specs.declared.Outcome.{Outcome}
+use Rattle.engine.proofs.Outcomes.{each-message, each-start, each-finish, each-reset}
+use Rattle.engine.proofs.Entries.{noneAccepts, appliesAt, passed}
+
+-- a place that is not 8 is a listed path's
+listed-place : (t : Table) (id : ℕ) → pathOf t id < 8 → pathOf t id < t .count
+unfolding placeOf
+listed-place t id l = ltb-true _ _ (both _ _ (first-picks 8 _ l) .0)
+
+owned-by : (o : Aca) (p : ℕ) → ownedBy o p ≡ true → o ≡ Owned p
+owned-by Clear p e = let z : _≡_ {A = ℕ} 0 1 = cc in absurd (omega arith)
+owned-by (Owned q) p e = ap Owned (eqb-true q p e)
+
+-- ---- a command that is accepted may come
+
+aca-asked : (q : Queue) → isAca (kindOf q) ≡ true → eqb (q .0) (Paper.queueAca .0) ≡ true
+aca-asked q = cases (eqb (q .0) (Paper.queueAca .0)) (eqb (q .0) (Paper.queueHead .0)) (eqb (q .0) (Paper.queueOrdered .0))
+  where
+    cases : (b c d : Bool) → isAca (cond b kind.Aca (cond c kind.Head (cond d kind.Ordered kind.Simple))) ≡ true → b ≡ true
+    cases true c d e = refl
+    cases false true d e = e
+    cases false false true e = e
+    cases false false false e = e
+
+-- rule 7, for kind ACA
+owner-alone : (f : Facts) (g : Flags) → asksAca g ≡ true → barred f g ≡ false → stray f g ≡ false → (f .owned ≡ true) × (f .busy ≡ false)
+unfolding barred stray
+owner-alone f g = cases (f .aca) (f .owned) (asksAca g) (f .busy)
+  where
+    cases : (aca owned asks busy : Bool) → asks ≡ true → (aca && not (owned && (asks && not busy))) ≡ false → (not aca && asks) ≡ false → (owned ≡ true) × (busy ≡ false)
+    cases aca owned false busy a b s = absurd (never a refl)
+    cases false owned true busy a b s = absurd (never refl s)
+    cases true false true busy a b s = absurd (never refl b)
+    cases true true true true a b s = absurd (never refl b)
+    cases true true true false a b s = (refl, refl)
+
+-- the rules by their places in the list: 6 is rule 5, 7 is rule 6, 8 and 9 are rule 7
+module _ (t : Table) (p tag lun : ℕ) (flags : Flags) (m : List ℕ) where
+  abbrev facts : Facts
+  facts = factsOf t p tag lun false
+
+  may-come : p < t .count → deciding facts flags m .gives ≡ Accept → MayCome t p tag lun (kindOf (flags .queue))
+  unfolding commandRules roomRules fieldRules unitRules blockRules factsOf noneAccepts
+  may-come l e =
+      let off : (k : ℕ) → appliesAt (commandRules facts flags m) k ≡ false = passed (commandRules facts flags m) (accepts m) refl e in
+      let by-owner : isAca (kindOf (flags .queue)) ≡ true → (ownedBy (unitAt t lun .aca) p ≡ true) × (anyLive t (acaOn lun) ≡ false) =
+      λ a. owner-alone facts flags (aca-asked (flags .queue) a) (off 8) (off 9) in
+      record {
+        listed = l;
+        attached = not-false _ (off 7);
+        free = off 6;
+        owner = λ a. owned-by (unitAt t lun .aca) p (by-owner a .0);
+        alone = λ a. by-owner a .1;
+      }
+
+-- ---- what an order leaves
+
+-- CLEAR ACA is answered 00h only to the owner
+owner-clears : (f : Facts) (m : List ℕ) (lun : ℕ) → orderCode f m (ClearAca lun) .0 ≡ 0 → f .owned ≡ true
+unfolding orderCode
+owner-clears f m lun = cases (reservedSet m) (not (f .attached)) (f .owned)
+  where
+    cases : (b c owned : Bool) → cond b Paper.invalidField (cond c Paper.invalidField (cond owned Paper.done Paper.noAca)) .0 ≡ 0 → owned ≡ true
+    cases true c owned e = absurd (omega arith)
+    cases false true owned e = absurd (omega arith)
+    cases false false true e = refl
+    cases false false false e = absurd (omega arith)
+
+aca-there : (a : Task) (lun : ℕ) → picks (acaOn lun) a ≡ true → (a .unit ≡ lun) × (isAca (a .kind) ≡ true)
+aca-there a lun e = let h = both _ _ (sym (picks-aca-on a lun) ∙ e) in (eqb-true _ _ (h .0), h .1)
+
+module _ (t : Table) (g : Good t) where
+  none-on : (lun : ℕ) → anyLive (endedBy t (onUnit lun)) (acaOn lun) ≡ false
+  none-on lun = none-left t (onUnit lun) (g .shaped) (acaOn lun) (λ i a f. picks-on a lun ∙ eq-eqb _ _ (aca-there a lun (f .picked) .0))
+
+  none-anywhere : (lun : ℕ) → anyLive (endedBy t everyTask) (acaOn lun) ≡ false
+  none-anywhere lun = none-left t everyTask (g .shaped) (acaOn lun) (λ i a f. picks-every a)
+
+  -- the ACA task is the owner's
+  none-owned : (p lun : ℕ) → ownedBy (unitAt t lun .aca) p ≡ true → anyLive (endedBy t (acaFromOn p lun)) (acaOn lun) ≡ false
+  none-owned p lun o =
+      none-left t (acaFromOn p lun) (g .shaped) (acaOn lun)
+      (λ i a f.
+      let h = aca-there a lun (f .picked) in
+      let q : unitAt t (a .unit) .aca ≡ Owned (a .path) = g .sound .aca-owned i a (f .below) (f .here) (h .1) in
+      let r : unitAt t lun .aca ≡ Owned p = owned-by _ p o in
+      let u : a .unit ≡ lun = h .0 in
+      let s : a .path ≡ p = cc in
+      picks-aca-from-on a p lun ∙ rw (eq-eqb _ _ s, eq-eqb _ _ u, h .1))
+
+-- ---- the calls
+
+module _ (t : Table) (g : Good t) (p : ℕ) (l : p < t .count) where
+  mood-keeps : (mood : Mood) → Good (withPaths t (inMood (t .paths) p mood))
+  mood-keeps Stay = g
+  mood-keeps Mark = mark-keeps t p true g l
+  mood-keeps Unmark = mark-keeps t p false g l
+  mood-keeps Attend = attend-keeps (withPaths t (markedIn (t .paths) p false)) p (mark-keeps t p false g l) l
+
+  ruling-keeps : (next tag lun : ℕ) (flags : Flags) (r : Ruling) → (r ≡ Accept → MayCome t p tag lun (kindOf (flags .queue)))
+      → Good (carriedOut t (ruled next p tag lun flags r))
+  unfolding carriedOut acted anyLive
+  ruling-keeps next tag lun flags (Refuse n) c = g
+  ruling-keeps next tag lun flags (Respond code mood) c = mood-keeps mood
+  ruling-keeps next tag lun flags (Report status sense mood) c = mood-keeps mood
+  ruling-keeps next tag lun flags Accept c =
+      let h = c refl in
+      accept-keeps (withPaths t (inMood (t .paths) p Unmark)) p tag lun _ (mood-keeps Unmark)
+      (record { listed = h .listed; attached = h .attached; free = h .free; owner = h .owner; alone = h .alone })
+
+  -- what an order asks of the table
+  abbrev asked : Order → Facts
+  asked o = factsOf t p (tagOf o) (unitOf o) (isClearSet o)
+
+  -- a reset alarms the paths
+  abbrev alarmed : Table
+  alarmed = withPaths t (alarmedIn (t .paths) (t .count) false)
+
+  alarmed-good : Good alarmed
+  alarmed-good = alarm-keeps t false g
+
+  -- an order that is carried out. To end tasks first and then take an ACA comes to the same table
+  done-keeps : (m : List ℕ) (o : Order) → orderCode (asked o) m o .0 ≡ 0 → Good (endedBy (withParts t (change.Besides (asked o .losers) o)) (endsOf p o))
+  unfolding endedBy factsOf
+  done-keeps m (AbortTask tag2) e = end-keeps t _ g
+  done-keeps m (AbortTaskSet lun) e = end-keeps t _ g
+  done-keeps m (ClearTaskSet lun) e = end-keeps _ _ (warn-keeps t lun p g)
+  done-keeps m (ClearAca lun) e =
+      clear-keeps (endedBy t (acaFromOn p lun)) (On lun) (end-keeps t _ g) (none-owned t g p lun (owner-clears (asked (ClearAca lun)) m lun e))
+  done-keeps m (UnitReset lun) e =
+      clear-keeps (endedBy alarmed (onUnit lun)) (On lun) (end-keeps alarmed _ alarmed-good) (none-on alarmed alarmed-good lun)
+  done-keeps m TargetReset e =
+      clear-keeps (endedBy alarmed everyTask) Anywhere (end-keeps alarmed _ alarmed-good) (none-anywhere alarmed alarmed-good)
+
+  plan-keeps : (m : List ℕ) (tag : ℕ) (w : What) → Good (carriedOut t (planAt t m p tag w))
+  unfolding carriedOut acted planAt orderPlan
+  plan-keeps m tag (Command lun flags) = ruling-keeps (t .next) tag lun flags _ (may-come t p tag lun flags m l)
+  plan-keeps m tag (Manage o) =
+      cond-ind (λ (pl : Plan). Good (carriedOut t pl)) (eqb (orderCode (asked o) m o .0) (Paper.done .0)) (λ e. done-keeps m o (eqb-true _ _ e)) (λ _. g)
+
+abbrev GoodAfter : Outcome → Type 0
+GoodAfter o = Good (o .table)
+
+pub message-keeps : MessageKeeps
+message-keeps t m n g =
+    each-message GoodAfter t (λ _. g) m (λ path tag w l. plan-keeps t g (pathOf t path) (listed-place t path l) m tag w) n
+
+-- the task that may go is on the unit
+on-unit : (a : Task) (aca : Bool) (unit : ℕ) → picks (cond aca (acaWaitingOn unit) (waitingOn unit)) a ≡ true → a .unit ≡ unit
+on-unit a true unit e = eqb-true _ _ (meets _ a e .place)
+on-unit a false unit e = eqb-true _ _ (meets _ a e .place)
+
+pub start-keeps : StartKeeps
+unfolding choiceOn
+start-keeps t unit g =
+    each-start GoodAfter t (λ _. g) unit
+    (λ _ idle found.
+    start-task-keeps t (choiceOn t unit .at) g (rw (on-unit _ (hasAca (unitAt t unit .aca)) unit (pick-at t _ (g .shaped) found .picked)) idle))
+
+pub finish-keeps : FinishKeeps
+finish-keeps t arrival status s n g =
+    each-finish GoodAfter t (λ _. g) arrival status s n
+    (λ found. let f = pick-at t (runningAs arrival) (g .shaped) found in finish-task-keeps t _ _ _ g (f .below) (f .here))
+
+pub reset-keeps : ResetKeeps
+reset-keeps t g = each-reset GoodAfter t (λ _. g) (reset-table-keeps t g)
+
+pub setup-is-good : SetupIsGood
+unfolding setupOf
+setup-is-good = setup-table-is-good

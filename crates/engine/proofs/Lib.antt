@@ -1,0 +1,11 @@
+-- The theorems about the calls; how a call's outcome comes about.
+pub mod Examples
+pub mod Drives
+pub mod Promises
+pub mod Keeps
+pub mod Abort
+mod Outcomes
+mod Entries
+mod Calling
+mod Cases
+mod Planning

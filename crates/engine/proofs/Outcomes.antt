@@ -1,0 +1,64 @@
+-- What holds at each way out of a call's definition holds of its outcome. Assumes nothing.
+use Prim.Native.Nat.{ℕ, _<_}
+use mathlib.Core.Path.{_≡_}
+use mathlib.Core.Bool.{true, false, not}
+use mathlib.Core.List.{List}
+use lib.Dec.{eqb, ltb}
+use borrow.Author.Tests.{not-false, ltb-true}
+use Rattle.wire.specs.Paper
+use Rattle.wire.specs.declared.codes.Refusal.{Refusal}
+use Rattle.wire.specs.declared.codes.StatusByte.{StatusByte}
+use Rattle.wire.specs.declared.codes.Sense.{Sense}
+use Rattle.task.specs.Selections.{runningOn, runningAs}
+use Rattle.task.proofs.Ways.{cond-ind}
+use Rattle.table.specs.Tables.{pathOf, pathAt, isAttached, anyLive, pickOf, started, finished, resetOf}
+use Rattle.table.specs.Sound.{soundOf}
+use Rattle.table.specs.declared.Table.{Table}
+use Rattle.engine.specs.Plans.{pathsAfter, unitsAfter}
+use Rattle.engine.specs.Calls.{out, refused, heardOf, planAt, planFor, acted, carriedOut, carried, answeredTo, messageOf, choiceOn, startOf, mayFinish, sentSense, runningTask, finishOf, totalResetOf}
+use Rattle.engine.specs.declared.plan.What.{What}
+use Rattle.engine.specs.declared.plan.Asked.{Asked}
+use Rattle.engine.specs.declared.plan.Asked.the-variants.{By, Unread}
+use Rattle.engine.specs.declared.plan.Plan.{Plan}
+use Rattle.engine.specs.declared.Answer.the-variants as answer
+use Rattle.engine.specs.declared.Outcome.{Outcome}
+
+module _ (P : Outcome → Type 0) (t : Table) (stops : (n : Refusal) → P (refused t n)) where
+  -- a message: refused, or the plan for a listed path is carried out
+  module _ (m : List ℕ) (goes : (path tag : ℕ) (w : What) → pathOf t path < 8 → P (carried t path (planAt t m (pathOf t path) tag w))) where
+    asked : (a : Asked) → P (answeredTo t m a)
+    unfolding answeredTo planFor carriedOut acted
+    asked (Unread n) = stops n
+    asked (By path tag w) =
+        cond-ind (λ (pl : Plan). P (carried t path pl)) (ltb (pathOf t path) 8) (λ l. goes path tag w (ltb-true _ 8 l)) (λ _. stops Paper.unknownPath)
+
+    pub each-message : (n : ℕ) → P (messageOf t m n)
+    unfolding messageOf
+    each-message n = asked (heardOf (soundOf t) n m)
+
+  pub each-start : (unit : ℕ)
+      → (isAttached t unit ≡ true → anyLive t (runningOn unit) ≡ false → choiceOn t unit .found ≡ true
+      → P (out (started t (choiceOn t unit .at)) (answer.Started (choiceOn t unit .arrival)) 0))
+      → P (startOf t unit)
+  unfolding startOf
+  each-start unit goes =
+      cond-ind P (not (soundOf t)) (λ _. stops _)
+      (λ _. cond-ind P (not (isAttached t unit)) (λ _. stops _)
+      (λ a. cond-ind P (anyLive t (runningOn unit)) (λ _. stops _)
+      (λ r. cond-ind P (not (choiceOn t unit .found)) (λ _. stops _) (λ f. goes (not-false _ a) r (not-false _ f)))))
+
+  pub each-finish : (arrival : ℕ) (status : StatusByte) (s : Sense) (n : ℕ)
+      → (pickOf t (runningAs arrival) .found ≡ true
+      → P (out (finished t (runningTask t arrival) (eqb (status .0) (Paper.checkCondition .0)))
+      (answer.Status (runningTask t arrival .tag) status (sentSense status s)) (pathAt t (runningTask t arrival .path) .id)))
+      → P (finishOf t arrival status s n)
+  unfolding finishOf
+  each-finish arrival status s n goes =
+      cond-ind P (not (soundOf t)) (λ _. stops _)
+      (λ _. cond-ind P (ltb n Paper.replyRoom) (λ _. stops _)
+      (λ _. cond-ind P (not (mayFinish status s)) (λ _. stops _)
+      (λ _. cond-ind P (not (pickOf t (runningAs arrival) .found)) (λ _. stops _) (λ f. goes (not-false _ f)))))
+
+  pub each-reset : P (out (resetOf t) answer.Reset 0) → P (totalResetOf t)
+  unfolding totalResetOf
+  each-reset goes = cond-ind P (not (soundOf t)) (λ _. stops _) (λ _. goes)

@@ -1,0 +1,168 @@
+-- What each call answers, what table it hands back, and what it leaves in the reply buffer: the refusals in their order, then the rest.
+use Prim.Native.Nat.{ℕ}
+use mathlib.Core.Path.{_≡_}
+use mathlib.Core.Bool.{Bool, true, false, cond, not, _&&_, _||_}
+use mathlib.Core.List.{List, []}
+use lib.ListN.{length}
+use lib.Dec.{eqb, ltb, leb}
+use Rattle.wire.specs.Paper
+use Rattle.wire.specs.Messages.{readOf}
+use Rattle.wire.specs.Block.{blockOf}
+use Rattle.wire.specs.declared.codes.Refusal.{Refusal}
+use Rattle.wire.specs.declared.codes.StatusByte.{StatusByte}
+use Rattle.wire.specs.declared.codes.Sense.{Sense}
+use Rattle.reply.specs.Calls.{leftOf}
+use Rattle.reply.specs.declared.Reply.the-variants as reply
+use Rattle.task.specs.Selections.{runningOn, waitingOn, acaWaitingOn, runningAs}
+use Rattle.task.specs.declared.Task.{Task}
+use Rattle.task.specs.declared.scan.Pick.{Pick}
+use Rattle.table.specs.Tables.{pathOf, pathAt, unitAt, taskAt, isAttached, anyLive, pickOf, accepted, endedBy, started, finished, resetOf}
+use Rattle.table.specs.Setup.{badList, setupTable}
+use Rattle.table.specs.Sound.{soundOf}
+use Rattle.table.specs.declared.Table.{Table}
+use Rattle.engine.specs.Rules.{hasAca, factsOf}
+use Rattle.engine.specs.Plans.{askedOf, tagAsked, unitAsked, clearsSet, refusing, planOf, pathsAfter, unitsAfter}
+use Rattle.engine.specs.declared.plan.What.{What}
+use Rattle.engine.specs.declared.plan.Asked.{Asked}
+use Rattle.engine.specs.declared.plan.Asked.the-variants.{By, Unread}
+use Rattle.engine.specs.declared.plan.Change.{Change}
+use Rattle.engine.specs.declared.plan.Deed.{Deed}
+use Rattle.engine.specs.declared.plan.Deed.the-variants as deed
+use Rattle.engine.specs.declared.plan.Plan.{Plan}
+use Rattle.engine.specs.declared.Answer.{Answer}
+use Rattle.engine.specs.declared.Answer.the-variants as answer
+use Rattle.engine.specs.declared.Outcome.{Outcome}
+
+-- ---- an outcome: the table, the answer, and the id of the path that the reply goes to, 0 with no reply
+
+abbrev pub out : Table → Answer → ℕ → Outcome
+out t a to = record { table = t; answer = a; to = to }
+
+abbrev pub refused : Table → Refusal → Outcome
+refused t n = out t (answer.Refused n) 0
+
+-- ---- a message: 13, 5, then 1, 2, 1 by the reader, 3, then by the rules and orders
+
+-- what is heard, with a reply buffer of so many bytes
+unfoldable pub heardOf : Bool → ℕ → List ℕ → Asked
+heardOf sound room m =
+    cond (not sound) (Unread Paper.notSound) (cond (ltb room Paper.replyRoom) (Unread Paper.smallBuffer) (askedOf (readOf m)))
+
+-- the plan for what the path with an id asks; p is its place in the path list
+unfoldable pub planAt : Table → List ℕ → ℕ → ℕ → What → Plan
+planAt t m p tag w = planOf (factsOf t p (tagAsked tag w) (unitAsked w) (clearsSet w)) (t .next) p tag m w
+
+unfoldable pub planFor : Table → List ℕ → ℕ → ℕ → What → Plan
+planFor t m path tag w = cond (ltb (pathOf t path) 8) (planAt t m (pathOf t path) tag w) (refusing Paper.unknownPath)
+
+-- a plan carried out: paths and units, then the records
+abbrev pub withParts : Table → Change → Table
+withParts t c = record {
+  live = t .live;
+  next = t .next;
+  count = t .count;
+  attached = t .attached;
+  paths = pathsAfter (t .paths) (t .count) c;
+  units = unitsAfter (t .units) c;
+  tasks = t .tasks;
+}
+
+unfoldable pub acted : Table → Deed → Table
+acted t deed.Nothing = t
+acted t (deed.Accept path tag lun kind) = accepted t path tag lun kind
+acted t (deed.End s) = endedBy t s
+
+unfoldable pub carriedOut : Table → Plan → Table
+carriedOut t pl = acted (withParts t (pl .change)) (pl .deed)
+
+-- the path that a reply goes to, and 0 where the answer is none
+abbrev pub replyPath : Answer → ℕ → ℕ
+replyPath answer.Ready path = 0
+replyPath (answer.Accepted n) path = 0
+replyPath (answer.Response tag code) path = path
+replyPath (answer.Status tag status sense) path = path
+replyPath (answer.Started n) path = 0
+replyPath answer.Reset path = 0
+replyPath (answer.Refused n) path = 0
+
+abbrev pub carried : Table → ℕ → Plan → Outcome
+carried t path pl = out (carriedOut t pl) (pl .answer) (replyPath (pl .answer) path)
+
+unfoldable pub answeredTo : Table → List ℕ → Asked → Outcome
+answeredTo t m (Unread n) = refused t n
+answeredTo t m (By path tag w) = carried t path (planFor t m path tag w)
+
+-- n is the length of the reply buffer
+unfoldable pub messageOf : Table → List ℕ → ℕ → Outcome
+messageOf t m n = answeredTo t m (heardOf (soundOf t) n m)
+
+-- start, for a unit with nothing running: 13, 6, 7, 8. Under ACA only the ACA task may go
+unfoldable pub choiceOn : Table → ℕ → Pick
+choiceOn t unit = pickOf t (cond (hasAca (unitAt t unit .aca)) (acaWaitingOn unit) (waitingOn unit))
+
+unfoldable pub startOf : Table → ℕ → Outcome
+startOf t unit =
+    cond (not (soundOf t)) (refused t Paper.notSound)
+    (cond (not (isAttached t unit)) (refused t Paper.notAttached)
+    (cond (anyLive t (runningOn unit)) (refused t Paper.unitBusy)
+    (cond (not (choiceOn t unit .found)) (refused t Paper.nothingToStart)
+    (out (started t (choiceOn t unit .at)) (answer.Started (choiceOn t unit .arrival)) 0))))
+
+-- finish: 13, 5, 10, 9. Status 00h, 02h, 04h or 18h, sense key up to 15
+abbrev pub mayFinish : StatusByte → Sense → Bool
+mayFinish status s =
+    leb (s .key) 15
+    && (eqb (status .0) (Paper.good .0) || (eqb (status .0) (Paper.checkCondition .0) || (eqb (status .0) (Paper.conditionMet .0) || eqb (status .0) (Paper.reservationConflict .0))))
+
+-- sense is sent with 02h; with another status it is zero, whatever the device passed
+abbrev pub sentSense : StatusByte → Sense → Sense
+sentSense status s = cond (eqb (status .0) (Paper.checkCondition .0)) s Paper.noSense
+
+-- the running task of an arrival number
+abbrev pub runningTask : Table → ℕ → Task
+runningTask t arrival = taskAt t (pickOf t (runningAs arrival) .at)
+
+unfoldable pub finishOf : Table → ℕ → StatusByte → Sense → ℕ → Outcome
+finishOf t arrival status s n =
+    cond (not (soundOf t)) (refused t Paper.notSound)
+    (cond (ltb n Paper.replyRoom) (refused t Paper.smallBuffer)
+    (cond (not (mayFinish status s)) (refused t Paper.badStatus)
+    (cond (not (pickOf t (runningAs arrival) .found)) (refused t Paper.notRunning)
+    (out (finished t (runningTask t arrival) (eqb (status .0) (Paper.checkCondition .0)))
+    (answer.Status (runningTask t arrival .tag) status (sentSense status s)) (pathAt t (runningTask t arrival .path) .id)))))
+
+-- total reset: 13 only
+unfoldable pub totalResetOf : Table → Outcome
+totalResetOf t = cond (not (soundOf t)) (refused t Paper.notSound) (out (resetOf t) answer.Reset 0)
+
+-- setup: 11, with the all-zero table
+unfoldable pub setupOf : List ℕ → ℕ → ℕ → Outcome
+setupOf ids attached first = out (setupTable ids attached first) (cond (badList ids) (answer.Refused Paper.badPaths) answer.Ready) 0
+
+-- ---- the reply buffer
+
+-- the reply that an answer asks for at the front of the buffer; with no reply the buffer stays
+unfoldable pub replied : Answer → List ℕ → List ℕ
+replied answer.Ready buf = buf
+replied (answer.Accepted n) buf = buf
+replied (answer.Response tag code) buf = leftOf (reply.Response tag code) buf
+replied (answer.Status tag status sense) buf = leftOf (reply.Status tag status sense) buf
+replied (answer.Started n) buf = buf
+replied answer.Reset buf = buf
+replied (answer.Refused n) buf = buf
+
+-- the contract of a call with a reply buffer: the outcome o is the one defined, and the buffer is left as its answer asks
+pub record Answers (defined : Outcome) (buf : List ℕ) (o : Outcome) (left : List ℕ) : Type 0 where
+  pub outcome : o ≡ defined
+  pub buffer : left ≡ replied (defined .answer) buf
+
+-- ---- the command block handed over: the part of the message with an accepted command, an empty part with any other answer
+
+unfoldable pub handedOver : List ℕ → Answer → List ℕ
+handedOver m answer.Ready = []
+handedOver m (answer.Accepted n) = blockOf m
+handedOver m (answer.Response tag code) = []
+handedOver m (answer.Status tag status sense) = []
+handedOver m (answer.Started n) = []
+handedOver m answer.Reset = []
+handedOver m (answer.Refused n) = []

@@ -1,0 +1,35 @@
+-- Wrong drives: what a drive answers to a message, when it meets demand 2, and three that do not.
+use Prim.Native.Nat.{ℕ}
+use mathlib.Core.Path.{_≡_}
+use mathlib.Core.List.{List}
+use lib.ListN.{length}
+use Rattle.wire.specs.declared.codes.Refusal.{Refusal}
+use Rattle.table.specs.declared.Table.{Table}
+use Rattle.engine.specs.Calls.{messageOf, Answers}
+use Rattle.engine.specs.declared.Answer.{Answer}
+use Rattle.engine.specs.declared.Answer.the-variants as answer
+use Rattle.engine.specs.declared.Outcome.{Outcome}
+
+-- for a table, a message and a reply buffer: the outcome, and the buffer as it is left
+pub record Drive : Type 0 where
+  pub outcome : Table → List ℕ → List ℕ → Outcome
+  pub left : Table → List ℕ → List ℕ → List ℕ
+
+abbrev pub Meets : Drive → Type 0
+Meets d = (t : Table) (m buf : List ℕ) → Answers (messageOf t m (length buf)) buf (d .outcome t m buf) (d .left t m buf)
+
+-- it refuses every message
+abbrev pub RefusesAll : Drive → Type 0
+RefusesAll d = (t : Table) (m buf : List ℕ) → (n : Refusal) × (d .outcome t m buf .answer ≡ answer.Refused n)
+
+-- it answers all with a single reply
+abbrev pub AnswersOne : Drive → Answer → Type 0
+AnswersOne d a = (t : Table) (m buf : List ℕ) → d .outcome t m buf .answer ≡ a
+
+-- it never touches the table
+abbrev pub NeverTouches : Drive → Type 0
+NeverTouches d = (t : Table) (m buf : List ℕ) → d .outcome t m buf .table ≡ t
+
+-- none of them meets demand 2: the first at example c, the second at e, the third at f
+abbrev pub WrongDrives : Type 0
+WrongDrives = (d : Drive) → Meets d → (RefusesAll d → ⊥) × ((a : Answer) → AnswersOne d a → ⊥) × (NeverTouches d → ⊥)

@@ -1,0 +1,123 @@
+-- Page 01's proved examples a to l as one table, and its worked calls.
+-- Paths 1 and 2, mask 01h, no attention, nothing live unless said; tag 0005h, path 1, kind 3, zero CDB.
+use Prim.Native.Nat.{ℕ, zero, suc, _+_, _-_, _^_}
+use mathlib.Core.Path.{_≡_}
+use mathlib.Core.Bool.{true, false}
+use mathlib.Core.List.{List, [], _∷_, map}
+use lib.ListN.{replicate}
+use Rattle.wire.specs.Paper
+use Rattle.task.specs.Tasks.{noTask}
+use Rattle.task.specs.declared.Task.{Task}
+use Rattle.task.specs.declared.Kind.the-variants.{Simple}
+use Rattle.task.specs.declared.Phase.the-variants.{Waiting}
+use Rattle.table.specs.Tables.{noPath, noUnit, accepted}
+use Rattle.table.specs.declared.Table.{Table}
+use Rattle.table.specs.declared.Path as path
+use Rattle.table.specs.declared.Attention.the-variants as attention
+use Rattle.engine.specs.Calls.{messageOf, startOf, finishOf, setupOf, replied}
+use Rattle.engine.specs.declared.Answer.{Answer}
+use Rattle.engine.specs.declared.Answer.the-variants.{Accepted, Response, Status, Started, Refused}
+use Rattle.engine.specs.declared.Outcome.{Outcome}
+
+abbrev pub listed : ℕ → path.Path
+listed id = record { id = id; full = false; attention = attention.Nothing }
+
+unfoldable pub quiet : Table
+quiet = record {
+  live = 0;
+  next = 1;
+  count = 2;
+  attached = 0x01;
+  paths = listed 1 ∷ listed 2 ∷ replicate 6 noPath;
+  units = replicate 8 noUnit;
+  tasks = replicate 64 noTask;
+}
+
+-- n tasks of path 1, with tags and arrival numbers from k on
+unfoldable pub tasksFrom : ℕ → ℕ → List Task
+tasksFrom k zero = []
+tasksFrom k (suc n) = record { arrival = k; tag = 0x100 + k; path = 0; unit = 0; kind = Simple; phase = Waiting } ∷ tasksFrom (suc k) n
+
+unfoldable pub full : Table
+full = record { live = 2 ^ 64 - 1; next = 65; count = 2; attached = 0x01; paths = quiet .paths; units = quiet .units; tasks = tasksFrom 1 64 }
+
+-- a command with tag 0005h: path, LUN, byte 10, byte 11 and the command block
+abbrev pub command : ℕ → ℕ → ℕ → ℕ → List ℕ → List ℕ
+command path lun flags spare cdb =
+    0x83 ∷ 0x10 ∷ 0 ∷ 5 ∷ 0 ∷ 0 ∷ 0 ∷ path ∷ lun ∷ 0 ∷ flags ∷ spare ∷ 0 ∷ 0 ∷ 0 ∷ 0 ∷ cdb
+
+abbrev pub zeros : List ℕ
+zeros = replicate 6 0
+
+abbrev pub unitReset : List ℕ → List ℕ
+unitReset lun = 0x83 ∷ 0x35 ∷ 0 ∷ 5 ∷ 0 ∷ 0 ∷ 0 ∷ 1 ∷ lun
+
+pub record Example : Type 0 where
+  pub table : Table
+  pub message : List ℕ
+  pub answer : Answer
+
+abbrev pub given : Table → List ℕ → Answer → Example
+given t m a = record { table = t; message = m; answer = a }
+
+-- the full table, after its command was answered
+abbrev pub again : Table
+again = messageOf full (command 1 0 3 0 zeros) 64 .table
+
+unfoldable pub examples : List Example
+examples =
+    given quiet [] (Refused (Paper.refusal 1))  -- a
+    ∷ given quiet (0x83 ∷ []) (Refused (Paper.refusal 1))
+    ∷ given quiet (0x84 ∷ 0x10 ∷ []) (Refused (Paper.refusal 2))  -- b
+    ∷ given quiet (command 1 0 3 0 (replicate 5 0)) (Refused (Paper.refusal 1))  -- c
+    ∷ given quiet (command 1 0 3 0 zeros) (Accepted 1)
+    ∷ given quiet (command 9 0 3 0 zeros) (Refused (Paper.refusal 3))  -- d
+    ∷ given quiet (command 1 0 0x23 0 zeros) (Response 5 (Paper.returnCode 0xff))  -- e
+    ∷ given full (command 1 0 3 0 zeros) (Status 5 (Paper.statusByte 0x28) Paper.noSense)  -- f
+    ∷ given again (command 1 0 3 0 zeros) (Refused (Paper.refusal 4))
+    ∷ given quiet (command 1 0 3 1 zeros) (Response 5 (Paper.returnCode 0xff))  -- g
+    ∷ given quiet (command 1 7 3 0 zeros) (Status 5 (Paper.statusByte 0x02) (Paper.sense 0x05 0x25 0x00))  -- h
+    ∷ given quiet (command 1 0 3 0 (0x60 ∷ [])) (Status 5 (Paper.statusByte 0x02) (Paper.sense 0x05 0x20 0x00))  -- i
+    ∷ given (accepted quiet 0 5 0 Simple) (command 1 0 3 0 zeros) (Response 5 (Paper.returnCode 0x04))  -- j
+    ∷ given (accepted quiet 1 5 0 Simple) (command 1 0 3 0 zeros) (Accepted 2)
+    ∷ given quiet (command 1 0 0 0 zeros) (Status 5 (Paper.statusByte 0x02) (Paper.sense 0x05 0x49 0x00))  -- k
+    ∷ given quiet (unitReset []) (Refused (Paper.refusal 1))  -- l
+    ∷ given quiet (unitReset (0 ∷ [])) (Response 5 (Paper.returnCode 0x00))
+    ∷ given quiet (unitReset (7 ∷ [])) (Response 5 (Paper.returnCode 0xff))
+    ∷ []
+
+-- each example is answered as page 01 says
+abbrev pub ExamplesHold : Type 0
+ExamplesHold = map (λ (e : Example). messageOf (e .table) (e .message) 64 .answer) examples ≡ map (λ (e : Example). e .answer) examples
+
+-- example e byte for byte, in a buffer of 64 bytes AAh
+abbrev pub buffer : List ℕ
+buffer = replicate 64 0xaa
+
+abbrev pub ExampleBytes : Type 0
+ExampleBytes =
+    replied (messageOf quiet (command 1 0 0x23 0 zeros) 64 .answer) buffer ≡ 0x83 ∷ 0x03 ∷ 0x00 ∷ 0x05 ∷ 0xff ∷ replicate 59 0xaa
+
+-- page 01's worked calls: setup, two commands, a start, a finish, a late finish; what the five events answer
+abbrev pub test : ℕ → List ℕ
+test tag = 0x83 ∷ 0x10 ∷ 0 ∷ tag ∷ 0 ∷ 0 ∷ 0 ∷ 1 ∷ 0 ∷ 0 ∷ 3 ∷ 0 ∷ 0 ∷ 0 ∷ 0 ∷ 0 ∷ zeros
+
+abbrev pub worked1 : Outcome
+worked1 = messageOf (setupOf (1 ∷ []) 0x01 1 .table) (test 5) 64
+
+abbrev pub worked2 : Outcome
+worked2 = messageOf (worked1 .table) (test 6) 64
+
+abbrev pub worked3 : Outcome
+worked3 = startOf (worked2 .table) 0
+
+abbrev pub worked4 : Outcome
+worked4 = finishOf (worked3 .table) 1 (Paper.statusByte 0x00) Paper.noSense 64
+
+abbrev pub worked5 : Outcome
+worked5 = finishOf (worked4 .table) 1 (Paper.statusByte 0x00) Paper.noSense 64
+
+abbrev pub WorkedCalls : Type 0
+WorkedCalls =
+    map (λ (o : Outcome). o .answer) (worked1 ∷ worked2 ∷ worked3 ∷ worked4 ∷ worked5 ∷ [])
+    ≡ Status 5 (Paper.statusByte 0x02) (Paper.sense 0x06 0x29 0x00) ∷ Accepted 1 ∷ Started 1 ∷ Status 6 (Paper.statusByte 0x00) Paper.noSense ∷ Refused (Paper.refusal 9) ∷ []
