@@ -22,8 +22,8 @@ use Rattle.table.specs.declared.Table.{Table}
 use Rattle.table.proofs.Views.{some-any, any-some}
 use Rattle.table.proofs.Exact.{check-is-exact}
 use Rattle.engine.specs.Rules.{factsOf}
-use Rattle.engine.specs.Management.{hasUnit, tagOf, carriedCode, orderCode}
-use Rattle.engine.specs.Plans.{askedOf, tagAsked, unitAsked, clearsSet, orderPlan, planOf}
+use Rattle.engine.specs.Management.{orderCode}
+use Rattle.engine.specs.Plans.{unitAsked, clearsSet, orderPlan}
 use Rattle.engine.specs.Calls.{heardOf, planAt, planFor, carried, replyPath, answeredTo, messageOf, replied}
 use Rattle.engine.specs.Promises.{Live, Agree, AbortDependsOnly}
 use Rattle.engine.specs.declared.rules.Facts.{Facts}

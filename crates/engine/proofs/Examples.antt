@@ -13,8 +13,8 @@ use Rattle.table.specs.Setup.{badList, freshPaths, pathsOf, freshTable, setupTa
 use Rattle.table.specs.Sound.{countOk, pathsDistinct, unusedZero, recordsOk, unitsOk, clashes, soundOf}
 use Rattle.engine.specs.First.{firstThat}
 use Rattle.engine.specs.Rules.{factsOf, resumesUnmarked, missesResume, barred, stray, passesAttention, resetPending, clearedPending, roomRules, fieldRules, unitRules, blockRules, commandRules}
-use Rattle.engine.specs.Management.{endsOf, tagOf, unitOf, hasUnit, isClearSet, carriedCode, orderCode, orderPaths, orderUnits}
-use Rattle.engine.specs.Plans.{askedOf, tagAsked, unitAsked, clearsSet, ruled, orderPlan, planOf, inMood, pathsAfter, unitsAfter}
+use Rattle.engine.specs.Management.{orderCode}
+use Rattle.engine.specs.Plans.{orderPlan}
 use Rattle.engine.specs.Calls.{heardOf, planAt, planFor, acted, carriedOut, answeredTo, messageOf, choiceOn, startOf, finishOf, setupOf, replied}
 use Rattle.engine.specs.Examples.{quiet, tasksFrom, full, examples, ExamplesHold, ExampleBytes, WorkedCalls}
 

@@ -27,8 +27,8 @@ use Rattle.table.specs.declared.Table.{Table}
 use Rattle.table.proofs.Views.{pick-at, none-left}
 use Rattle.table.proofs.Keeps.{accept-keeps, end-keeps, start-keeps as start-task-keeps, clear-keeps, mark-keeps, attend-keeps, alarm-keeps, warn-keeps, finish-keeps as finish-task-keeps, reset-keeps as reset-table-keeps, setup-is-good as setup-table-is-good}
 use Rattle.engine.specs.Rules.{hasAca, factsOf, asksAca, barred, stray, roomRules, fieldRules, unitRules, blockRules, commandRules, accepts, deciding}
-use Rattle.engine.specs.Management.{endsOf, tagOf, unitOf, hasUnit, isClearSet, carriedCode, orderCode, orderPaths, orderUnits}
-use Rattle.engine.specs.Plans.{tagAsked, unitAsked, clearsSet, kindOf, ruled, orderPlan, planOf, inMood, pathsAfter, unitsAfter}
+use Rattle.engine.specs.Management.{endsOf, tagOf, unitOf, isClearSet, orderCode}
+use Rattle.engine.specs.Plans.{kindOf, ruled, orderPlan, inMood}
 use Rattle.engine.specs.Calls.{withParts, planAt, acted, carriedOut, choiceOn, setupOf}
 use Rattle.engine.specs.Promises.{MessageKeeps, StartKeeps, FinishKeeps, ResetKeeps, SetupIsGood}
 use Rattle.engine.specs.declared.rules.Facts.{Facts}

@@ -14,7 +14,6 @@ use Rattle.task.proofs.Ways.{cond-ind}
 use Rattle.table.specs.Tables.{pathOf, pathAt, isAttached, anyLive, pickOf, started, finished, resetOf}
 use Rattle.table.specs.Sound.{soundOf}
 use Rattle.table.specs.declared.Table.{Table}
-use Rattle.engine.specs.Plans.{pathsAfter, unitsAfter}
 use Rattle.engine.specs.Calls.{out, refused, heardOf, planAt, planFor, acted, carriedOut, carried, answeredTo, messageOf, choiceOn, startOf, mayFinish, sentSense, runningTask, finishOf, totalResetOf}
 use Rattle.engine.specs.declared.plan.What.{What}
 use Rattle.engine.specs.declared.plan.Asked.{Asked}

@@ -1,6 +1,6 @@
 -- The return code of an order, and the plan for a ruling, an order and what is asked: a lemma for each way out of the functions of `manage` and `plan`. Assumes nothing.
 use Prim.Native.Nat.{ℕ}
-use mathlib.Core.Path.{_≡_, _∙_}
+use mathlib.Core.Path.{_≡_}
 use mathlib.Core.Bool.{Bool, true, false, not}
 use mathlib.Core.List.{List}
 use borrow.Author.Tests.{eq-eqb, ne-eqb}

@@ -16,7 +16,7 @@ use Rattle.table.specs.Setup.{badList, setupTable}
 use Rattle.table.specs.declared.Table.{Table}
 use Rattle.engine.specs.Rules.{deciding}
 use Rattle.engine.specs.Management.{orderCode}
-use Rattle.engine.specs.Plans.{ruled, orderPlan, planOf, pathsAfter, unitsAfter}
+use Rattle.engine.specs.Plans.{ruled, orderPlan, planOf}
 use Rattle.engine.specs.Calls.{planAt, acted, carriedOut, setupOf, replied, Answers}
 use Rattle.engine.specs.Promises.{AnswersUnique, OutcomeUnique, BlockUnique, MessageRefusals, FinishRefusals, StartRefusals, ResetRefusals, SetupRefusals}
 use Rattle.engine.specs.declared.rules.Facts.{Facts}

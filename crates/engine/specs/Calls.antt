@@ -1,9 +1,8 @@
 -- What each call answers, what table it hands back, and what it leaves in the reply buffer: the refusals in their order, then the rest.
 use Prim.Native.Nat.{ℕ}
 use mathlib.Core.Path.{_≡_}
-use mathlib.Core.Bool.{Bool, true, false, cond, not, _&&_, _||_}
+use mathlib.Core.Bool.{Bool, cond, not, _&&_, _||_}
 use mathlib.Core.List.{List, []}
-use lib.ListN.{length}
 use lib.Dec.{eqb, ltb, leb}
 use Rattle.wire.specs.Paper
 use Rattle.wire.specs.Messages.{readOf}

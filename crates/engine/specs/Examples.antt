@@ -2,7 +2,7 @@
 -- Paths 1 and 2, mask 01h, no attention, nothing live unless said; tag 0005h, path 1, kind 3, zero CDB.
 use Prim.Native.Nat.{ℕ, zero, suc, _+_, _-_, _^_}
 use mathlib.Core.Path.{_≡_}
-use mathlib.Core.Bool.{true, false}
+use mathlib.Core.Bool.{false}
 use mathlib.Core.List.{List, [], _∷_, map}
 use lib.ListN.{replicate}
 use Rattle.wire.specs.Paper

@@ -1,7 +1,6 @@
 -- A list of rules: the answer is that of the first that applies, and where none does, of the last.
 use Prim.Native.Nat.{ℕ}
-use mathlib.Core.Path.{_≡_}
-use mathlib.Core.Bool.{Bool, true, false, cond}
+use mathlib.Core.Bool.{Bool, cond}
 use mathlib.Core.List.{List, [], _∷_}
 use Rattle.engine.specs.declared.rules.Ruling.{Ruling}
 

@@ -10,7 +10,7 @@ use Rattle.wire.specs.Messages.{reservedSet}
 use Rattle.wire.specs.Block.{opcode, blockLength, cutShort, noBlock, linked}
 use Rattle.wire.specs.declared.message.Flags.{Flags}
 use Rattle.task.specs.Selections.{named, acaOn}
-use Rattle.table.specs.Tables.{pathAt, unitAt, isAttached, isNothing, isReset, anyLive, hasRoom, losersOf}
+use Rattle.table.specs.Tables.{pathAt, unitAt, isAttached, isReset, anyLive, hasRoom, losersOf}
 use Rattle.table.specs.Sound.{ownedBy}
 use Rattle.table.specs.declared.Table.{Table}
 use Rattle.table.specs.declared.Attention.{Attention}

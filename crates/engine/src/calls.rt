@@ -283,7 +283,15 @@ fn finished(t: Table, arrival: u64, status: StatusByte, sense: Sense, n: usize) 
 }
 
 // The device has finished the running task of an arrival number.
-pub fn finish(t: Table, arrival: u64, status: u8, key: u8, code: u8, qualifier: u8, reply: &mut [u8]) -> Outcome
+pub fn finish(
+    t: Table,
+    arrival: u64,
+    status: u8,
+    key: u8,
+    code: u8,
+    qualifier: u8,
+    reply: &mut [u8],
+) -> Outcome
     ensures { λ o. ⌜ Answers (finishOf t arrival (statusByte status) (sense key code qualifier) (length (now (reply .entry)))) (now (reply .entry)) o (now (reply .exit)) ⌝ }
 {
     let s = Sense {
