@@ -24,11 +24,13 @@ use wire::message::Flags;
 use wire::message::Message;
 use wire::message::reserved_set;
 
-// The most bytes that a case has, and the largest buffer that a reply is written into.
-pub const ROOM: usize = 80;
+// The most bytes that a case has.
+pub const ROOM: usize = 96;
 
-// What stands in that buffer before.
-const FILL: u8 = 0xaa;
+// The largest buffer that a reply is written into, and what stands in it before.
+pub const BUFFER: usize = 80;
+
+pub const FILL: u8 = 0xaa;
 
 // The first n bytes, or all where there are fewer.
 pub fn front(b: &[u8; ROOM], n: usize) -> &[u8] {
@@ -37,12 +39,12 @@ pub fn front(b: &[u8; ROOM], n: usize) -> &[u8] {
 }
 
 // The answer to a line that is no case.
-fn bad_case() {
+pub fn bad_case() {
     text(b"bad case");
 }
 
 // A refusal by its number.
-fn refused(r: Refusal) {
+pub fn refused(r: Refusal) {
     text(b"refused ");
     decimal(r.0 as usize);
 }
@@ -148,7 +150,7 @@ fn write_in(room: &mut [u8], n: usize, r: Reply) {
 
 // Writes a reply into a buffer of this length.
 fn written(length: u8, r: Reply) {
-    let mut room = [FILL; ROOM];
+    let mut room = [FILL; BUFFER];
     write_in(&mut room, length as usize, r);
 }
 

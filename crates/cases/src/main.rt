@@ -1,12 +1,15 @@
-// Runs byte-level cases: echoes each line of standard input, and answers it where it is a case.
+// Runs cases, bytes and calls: echoes each line of standard input, and answers it where it is a case. A table is kept from line to line.
 mod cases;
+mod engine_cases;
 mod print;
+mod table_cases;
 
 ghost use Prim.Native.Nat.{_≤_};
 ghost use lib.ListN.{length};
 use cases::ROOM;
 use libc::STDIN_FILENO;
 use print::text;
+use table::Table;
 use wire::fields::byte_at;
 
 // What stands for the number of bytes where a line is no case.
@@ -69,30 +72,36 @@ fn bytes_of(digits: &[u8], out: &mut [u8; ROOM]) -> usize {
     count
 }
 
-// Answers a case: its letter, and the digits behind it.
-fn answer(letter: u8, digits: &[u8]) {
+// Answers a case with these bytes, of which there are NO_CASE where it is none.
+fn answer(t: Table, letter: u8, bytes: &[u8; ROOM], count: usize) -> Table {
+    if count == NO_CASE {
+        cases::bad_case();
+        return t;
+    }
+    engine_cases::run(t, letter, cases::front(bytes, count))
+}
+
+// Answers a case on a line of its own: its letter, and the digits behind it.
+fn case(t: Table, letter: u8, digits: &[u8]) -> Table {
     let mut bytes = [0; ROOM];
     let count = bytes_of(digits, &mut bytes);
     text(b"  ");
-    if count == NO_CASE {
-        text(b"bad case");
-    } else {
-        cases::run(letter, cases::front(&bytes, count));
-    }
+    let next = answer(t, letter, &bytes, count);
     text(b"\n");
+    next
 }
 
 // Echoes a line, and answers it unless it is empty or a heading.
-fn line(l: &[u8]) {
+fn line(t: Table, l: &[u8]) -> Table {
     text(l);
     text(b"\n");
     if l.len() == 0 {
-        return;
+        return t;
     }
     if l[0] == b'#' {
-        return;
+        return t;
     }
-    answer(l[0], &l[1..]);
+    case(t, l[0], &l[1..])
 }
 
 // Where the line that starts at a place ends.
@@ -110,12 +119,13 @@ fn end_of(t: &[u8], from: usize) -> usize
     at
 }
 
-// Takes the lines one by one.
-fn lines(t: &[u8]) {
+// Takes the lines one by one. The table is all zero at first.
+fn lines(text: &[u8]) {
+    let mut t = Table::zero();
     let mut at = 0;
-    while at < t.len() {
-        let end = end_of(t, at);
-        line(&t[at..end]);
+    while at < text.len() {
+        let end = end_of(text, at);
+        t = line(t, &text[at..end]);
         at = end + 1;
     }
 }

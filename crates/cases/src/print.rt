@@ -26,9 +26,25 @@ pub fn hex_long(l: u32) {
     hex_word((l % 65536) as u16);
 }
 
+// Sixteen hex digits.
+pub fn hex_map(m: u64) {
+    hex_long((m / 0x1_0000_0000) as u32);
+    hex_long((m % 0x1_0000_0000) as u32);
+}
+
 // A number in decimal digits.
+pub fn number(n: u64) {
+    io::print_decimal(STDOUT_FILENO, n);
+}
+
 pub fn decimal(n: usize) {
-    io::print_decimal(STDOUT_FILENO, n as u64);
+    number(n as u64);
+}
+
+// A word, and the number behind it.
+pub fn counted(word: &[u8], n: u64) {
+    text(word);
+    number(n);
 }
 
 // A word, and 1 or 0 behind it.

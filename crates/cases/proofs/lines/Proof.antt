@@ -6,10 +6,13 @@ use Rattle.cases.proofs.lines.Statement.{statement}
 use Rattle.cases.proofs.lines.Tie as tie
 
 abbrev Inv-loop : tie.InvT-loop
-Inv-loop t at₀ at = Unit {0}
+Inv-loop text t₀ at₀ t at = Unit {0}
 
 abbrev μ-loop : tie.MeasureT-loop
-μ-loop t at₀ at = length t - at
+μ-loop text t₀ at₀ t at = length text - at
+
+zero-requires : tie.Need-zero-requires Inv-loop μ-loop
+zero-requires c κs = search needs
 
 loop-holds : tie.Need-loop-holds Inv-loop μ-loop
 loop-holds c = search needs
@@ -47,6 +50,7 @@ lines-spec =
     (tie.spec
     Inv-loop
     μ-loop
+    zero-requires
     loop-holds
     end-of-requires
     sub-line

@@ -7,10 +7,10 @@ use Rattle.cases.proofs.cases.damaged.Statement.{statement}
 use Rattle.cases.proofs.cases.damaged.Tie as tie
 
 abbrev Inv-loop : tie.InvT-loop
-Inv-loop b at copy₀ i₀ copy i = length copy ≡ 80
+Inv-loop b at copy₀ i₀ copy i = length copy ≡ 96
 
 abbrev μ-loop : tie.MeasureT-loop
-μ-loop b at copy₀ i₀ copy i = 80 - i
+μ-loop b at copy₀ i₀ copy i = 96 - i
 
 loop-holds : tie.Need-loop-holds Inv-loop μ-loop
 loop-holds c = search needs
