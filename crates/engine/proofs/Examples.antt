@@ -1,4 +1,4 @@
--- Page 01's examples and its worked calls, computed. Assumes nothing.
+-- Page 01's examples, its worked calls and what each order ends, computed. Assumes nothing.
 use mathlib.Core.Path.{refl}
 use Rattle.wire.specs.Messages.{placeOf, fieldsOf, readOf, commandReserved, reservedSet}
 use Rattle.wire.specs.Block.{cutShort, noBlock, linked}
@@ -16,7 +16,7 @@ use Rattle.engine.specs.Rules.{factsOf, resumesUnmarked, missesResume, b
 use Rattle.engine.specs.Management.{orderCode}
 use Rattle.engine.specs.Plans.{orderPlan}
 use Rattle.engine.specs.Calls.{heardOf, planAt, planFor, acted, carriedOut, answeredTo, messageOf, choiceOn, startOf, finishOf, setupOf, replied}
-use Rattle.engine.specs.Examples.{quiet, tasksFrom, full, examples, ExamplesHold, ExampleBytes, WorkedCalls}
+use Rattle.engine.specs.Examples.{quiet, tasksFrom, full, examples, shared, orders, ExamplesHold, ExampleBytes, WorkedCalls, OrdersEnd}
 
 pub examples-hold : ExamplesHold
 unfolding placeOf fieldsOf readOf commandReserved reservedSet cutShort noBlock linked first some all mapOf mapAt lowestFree withBit picks pathPlace anyLive hasRoom accepted endedBy markedIn attendedIn alarmedIn losersOf acaClearedIn countOk pathsDistinct unusedZero recordsOk unitsOk clashes soundOf firstThat factsOf resumesUnmarked missesResume barred stray passesAttention resetPending clearedPending roomRules fieldRules unitRules blockRules commandRules orderCode orderPlan heardOf planAt planFor acted carriedOut answeredTo messageOf quiet tasksFrom full examples
@@ -29,3 +29,7 @@ example-bytes = refl
 pub worked-calls : WorkedCalls
 unfolding placeOf fieldsOf readOf commandReserved reservedSet cutShort noBlock linked first some all mapOf mapAt lowestFree withBit picks considered scanFrom zeroTable pathPlace anyLive pickOf hasRoom accepted endedBy started markedIn attendedIn finished badList freshPaths pathsOf freshTable setupTable countOk pathsDistinct unusedZero recordsOk unitsOk clashes soundOf firstThat factsOf resumesUnmarked missesResume barred stray passesAttention resetPending clearedPending roomRules fieldRules unitRules blockRules commandRules heardOf planAt planFor acted carriedOut answeredTo messageOf choiceOn startOf finishOf setupOf
 worked-calls = refl
+
+pub orders-end : OrdersEnd
+unfolding placeOf fieldsOf readOf reservedSet first some all mapOf lowestFree withBit picks pathPlace anyLive hasRoom accepted endedBy countOk pathsDistinct unusedZero recordsOk unitsOk clashes soundOf factsOf orderCode orderPlan heardOf planAt planFor acted carriedOut answeredTo messageOf quiet shared orders
+orders-end = refl

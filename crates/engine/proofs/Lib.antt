@@ -1,4 +1,4 @@
--- The theorems about the calls; how a call's outcome comes about.
+-- The theorems about the calls; how a call's outcome comes about; the cases of the functions.
 pub mod Examples
 pub mod Drives
 pub mod Promises
@@ -6,6 +6,6 @@ pub mod Keeps
 pub mod Abort
 mod Outcomes
 mod Entries
-mod Calling
 mod Cases
 mod Planning
+mod Calling

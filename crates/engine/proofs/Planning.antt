@@ -58,16 +58,16 @@ pub ruleset code-cases = (reserved, no-such-unit, unit-there, no-unit)
 -- ---- QUEUE CNTL
 
 module _ (q : Queue) where
-  pub aca-kind : q .0 ≡ 0 → kind.Aca ≡ kindOf q
+  pub aca-kind : q .0 ≡ Paper.queueAca .0 → kind.Aca ≡ kindOf q
   aca-kind h = rw h
 
-  pub head-kind : q .0 ≡ 1 → kind.Head ≡ kindOf q
+  pub head-kind : q .0 ≡ Paper.queueHead .0 → kind.Head ≡ kindOf q
   head-kind h = rw h
 
-  pub ordered-kind : q .0 ≡ 2 → kind.Ordered ≡ kindOf q
+  pub ordered-kind : q .0 ≡ Paper.queueOrdered .0 → kind.Ordered ≡ kindOf q
   ordered-kind h = rw h
 
-  pub simple-kind : (q .0 ≡ 0 → ⊥) → (q .0 ≡ 1 → ⊥) → (q .0 ≡ 2 → ⊥) → kind.Simple ≡ kindOf q
+  pub simple-kind : (q .0 ≡ Paper.queueAca .0 → ⊥) → (q .0 ≡ Paper.queueHead .0 → ⊥) → (q .0 ≡ Paper.queueOrdered .0 → ⊥) → kind.Simple ≡ kindOf q
   simple-kind a b c = rw (ne-eqb _ _ a, ne-eqb _ _ b, ne-eqb _ _ c)
 
 pub ruleset kind-cases = (aca-kind, head-kind, ordered-kind, simple-kind)
@@ -92,11 +92,11 @@ pub ruleset ruled-cases = (refuses, responds, reports, takes)
 
 -- an order, by its return code
 module _ (f : Facts) (p tag : ℕ) (m : List ℕ) (o : Order) {code : ReturnCode} (e : code ≡ orderCode f m o) where
-  pub done : {s : Selection} → s ≡ endsOf p o → code .0 ≡ 0 → planned (answer.Response tag code) (change.Besides (f .losers) o) (deed.End s) ≡ orderPlan f p tag m o
+  pub done : {s : Selection} → s ≡ endsOf p o → code .0 ≡ Paper.done .0 → planned (answer.Response tag code) (change.Besides (f .losers) o) (deed.End s) ≡ orderPlan f p tag m o
   unfolding orderPlan
   done h k = rw (h, ← e, eq-eqb _ _ k)
 
-  pub not-done : (code .0 ≡ 0 → ⊥) → planned (answer.Response tag code) change.Nothing deed.Nothing ≡ orderPlan f p tag m o
+  pub not-done : (code .0 ≡ Paper.done .0 → ⊥) → planned (answer.Response tag code) change.Nothing deed.Nothing ≡ orderPlan f p tag m o
   unfolding orderPlan
   not-done k = rw (← e, ne-eqb _ _ k)
 

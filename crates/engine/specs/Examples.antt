@@ -1,4 +1,4 @@
--- Page 01's proved examples a to l as one table, and its worked calls.
+-- Page 01's proved examples a to l as one table, its worked calls, and what each order ends.
 -- Paths 1 and 2, mask 01h, no attention, nothing live unless said; tag 0005h, path 1, kind 3, zero CDB.
 use Prim.Native.Nat.{ℕ, zero, suc, _+_, _-_, _^_}
 use mathlib.Core.Path.{_≡_}
@@ -8,11 +8,12 @@ use lib.ListN.{replicate}
 use Rattle.wire.specs.Paper
 use Rattle.task.specs.Tasks.{noTask}
 use Rattle.task.specs.declared.Task.{Task}
-use Rattle.task.specs.declared.Kind.the-variants.{Simple}
+use Rattle.task.specs.declared.Kind.the-variants.{Aca, Simple}
 use Rattle.task.specs.declared.Phase.the-variants.{Waiting}
 use Rattle.table.specs.Tables.{noPath, noUnit, accepted}
 use Rattle.table.specs.declared.Table.{Table}
 use Rattle.table.specs.declared.Path as path
+use Rattle.table.specs.declared.Aca.the-variants.{Owned}
 use Rattle.table.specs.declared.Attention.the-variants as attention
 use Rattle.engine.specs.Calls.{messageOf, startOf, finishOf, setupOf, replied}
 use Rattle.engine.specs.declared.Answer.{Answer}
@@ -121,3 +122,41 @@ abbrev pub WorkedCalls : Type 0
 WorkedCalls =
     map (λ (o : Outcome). o .answer) (worked1 ∷ worked2 ∷ worked3 ∷ worked4 ∷ worked5 ∷ [])
     ≡ Status 5 (Paper.statusByte 0x02) (Paper.sense 0x06 0x29 0x00) ∷ Accepted 1 ∷ Started 1 ∷ Status 6 (Paper.statusByte 0x00) Paper.noSense ∷ Refused (Paper.refusal 9) ∷ []
+
+-- ---- what an order ends
+
+-- tag 0005h of paths 1 and 2 on unit 0, and tag 0006h of path 2, the ACA task, on unit 1: records 0, 1 and 2, so that live is 7
+abbrev pub owned : Table
+owned = record {
+  live = 0;
+  next = 1;
+  count = 2;
+  attached = 0x03;
+  paths = quiet .paths;
+  units = noUnit ∷ record { aca = Owned 1 } ∷ replicate 6 noUnit;
+  tasks = quiet .tasks;
+}
+
+unfoldable pub shared : Table
+shared = accepted (accepted (accepted owned 0 5 0 Simple) 1 5 0 Simple) 1 6 1 Aca
+
+-- an order of path 2: S3P CODE, then LUN or TAG 2
+abbrev pub order : ℕ → List ℕ → List ℕ
+order code rest = 0x83 ∷ code ∷ 0 ∷ 9 ∷ 0 ∷ 0 ∷ 0 ∷ 2 ∷ rest
+
+unfoldable pub orders : List (List ℕ)
+orders =
+    order 0x30 (0 ∷ 5 ∷ [])
+    ∷ order 0x30 (0 ∷ 6 ∷ [])
+    ∷ order 0x30 (0 ∷ 7 ∷ [])
+    ∷ order 0x31 (0 ∷ [])
+    ∷ order 0x32 (0 ∷ [])
+    ∷ order 0x34 (0 ∷ [])
+    ∷ order 0x34 (1 ∷ [])
+    ∷ order 0x35 (0 ∷ [])
+    ∷ order 0x33 []
+    ∷ []
+
+-- ABORT TASK of its own tag 5, 6 and of none; ABORT TASK SET and CLEAR TASK SET on unit 0; CLEAR ACA on units 0 and 1; the resets: the records left live
+abbrev pub OrdersEnd : Type 0
+OrdersEnd = map (λ (m : List ℕ). messageOf shared m 64 .table .live) orders ≡ 5 ∷ 3 ∷ 7 ∷ 5 ∷ 4 ∷ 7 ∷ 3 ∷ 4 ∷ 0 ∷ []

@@ -1,6 +1,7 @@
 // The rules of a command: the tests, and the first that applies.
 ghost use mathlib.Core.Path.{_≡_};
 ghost use mathlib.Core.List.{_++_};
+ghost use Rattle.wire.specs.Paper;
 ghost use Rattle.engine.specs.First.{firstThat};
 ghost use Rattle.engine.specs.Rules;
 ghost use Rattle.table.specs.Tables.{isReset};
@@ -227,25 +228,22 @@ fn report(rule: u8, status: StatusByte, sense: Sense, mood: Mood) -> Decision
     }
 }
 
+// CHECK CONDITION, with sense.
+fn check(rule: u8, sense: Sense, mood: Mood) -> Decision
+    ensures { λ r. ⌜ r ≡ Rules.decided rule (Ruling.Report Paper.checkCondition sense mood) ⌝ }
+{
+    report(rule, StatusByte::CHECK_CONDITION, sense, mood)
+}
+
 // Rules 9 to 11: the command block.
 fn by_block(m: &[u8]) -> Decision
     ensures { λ r. ⌜ r ≡ decision (firstThat (blockRules (now (m .entry))) (accepts (now (m .entry)))) ⌝ }
 {
     if wire::block::no_length(m) {
-        return report(
-            9,
-            StatusByte::CHECK_CONDITION,
-            Sense::UNKNOWN_COMMAND,
-            Mood::Unmark,
-        );
+        return check(9, Sense::UNKNOWN_COMMAND, Mood::Unmark);
     }
     if wire::block::is_linked(m) {
-        return report(
-            10,
-            StatusByte::CHECK_CONDITION,
-            Sense::INVALID_IN_BLOCK,
-            Mood::Unmark,
-        );
+        return check(10, Sense::INVALID_IN_BLOCK, Mood::Unmark);
     }
     Decision {
         rule: 11,
@@ -258,39 +256,19 @@ fn by_unit(f: Facts, g: Flags, m: &[u8]) -> Decision
     ensures { λ r. ⌜ r ≡ decision (firstThat (unitRules f g (now (m .entry)) ++ blockRules (now (m .entry))) (accepts (now (m .entry)))) ⌝ }
 {
     if !f.attached {
-        return report(
-            6,
-            StatusByte::CHECK_CONDITION,
-            Sense::NO_SUCH_UNIT,
-            Mood::Unmark,
-        );
+        return check(6, Sense::NO_SUCH_UNIT, Mood::Unmark);
     }
     if barred(f, g) {
         return report(7, StatusByte::ACA_ACTIVE, Sense::NONE, Mood::Unmark);
     }
     if stray(f, g) {
-        return report(
-            7,
-            StatusByte::CHECK_CONDITION,
-            Sense::NO_ACA_THERE,
-            Mood::Unmark,
-        );
+        return check(7, Sense::NO_ACA_THERE, Mood::Unmark);
     }
     if reset_pending(f, m) {
-        return report(
-            8,
-            StatusByte::CHECK_CONDITION,
-            Sense::RESET_OCCURRED,
-            Mood::Attend,
-        );
+        return check(8, Sense::RESET_OCCURRED, Mood::Attend);
     }
     if cleared_pending(f, m) {
-        return report(
-            8,
-            StatusByte::CHECK_CONDITION,
-            Sense::CLEARED_BY_ANOTHER,
-            Mood::Attend,
-        );
+        return check(8, Sense::CLEARED_BY_ANOTHER, Mood::Attend);
     }
     by_block(m)
 }

@@ -8,8 +8,8 @@ use Rattle.engine.proofs.rules.by_block.Tie as tie
 no-length-requires : tie.Need-no-length-requires
 no-length-requires c κs = search needs
 
-report-requires : tie.Need-report-requires
-report-requires c κs = search needs
+check-requires : tie.Need-check-requires
+check-requires c κs = search needs
 
 returns : tie.Need-returns
 unfolding blockRules
@@ -18,8 +18,8 @@ returns c = search first-cases depth 20
 is-linked-requires : tie.Need-is-linked-requires
 is-linked-requires c κs = search needs
 
-report-requires-2 : tie.Need-report-requires-2
-report-requires-2 c κs = search needs
+check-requires-2 : tie.Need-check-requires-2
+check-requires-2 c κs = search needs
 
 returns-2 : tie.Need-returns-2
 unfolding blockRules
@@ -34,9 +34,9 @@ by-block-spec =
     tie.close
     (tie.spec
     no-length-requires
-    report-requires
+    check-requires
     returns
     is-linked-requires
-    report-requires-2
+    check-requires-2
     returns-2
     returns-3)

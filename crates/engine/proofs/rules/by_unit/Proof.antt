@@ -5,8 +5,8 @@ use Rattle.engine.proofs.Cases.{first-cases}
 use Rattle.engine.proofs.rules.by_unit.Statement.{statement}
 use Rattle.engine.proofs.rules.by_unit.Tie as tie
 
-report-requires : tie.Need-report-requires
-report-requires c κs = search needs
+check-requires : tie.Need-check-requires
+check-requires c κs = search needs
 
 returns : tie.Need-returns
 unfolding unitRules
@@ -15,8 +15,8 @@ returns c = search first-cases depth 20
 barred-requires : tie.Need-barred-requires
 barred-requires c κs = search needs
 
-report-requires-2 : tie.Need-report-requires-2
-report-requires-2 c κs = search needs
+report-requires : tie.Need-report-requires
+report-requires c κs = search needs
 
 returns-2 : tie.Need-returns-2
 unfolding unitRules
@@ -25,8 +25,8 @@ returns-2 c = search first-cases depth 20
 stray-requires : tie.Need-stray-requires
 stray-requires c κs = search needs
 
-report-requires-3 : tie.Need-report-requires-3
-report-requires-3 c κs = search needs
+check-requires-2 : tie.Need-check-requires-2
+check-requires-2 c κs = search needs
 
 returns-3 : tie.Need-returns-3
 unfolding unitRules
@@ -35,8 +35,8 @@ returns-3 c = search first-cases depth 20
 reset-pending-requires : tie.Need-reset-pending-requires
 reset-pending-requires c κs = search needs
 
-report-requires-4 : tie.Need-report-requires-4
-report-requires-4 c κs = search needs
+check-requires-3 : tie.Need-check-requires-3
+check-requires-3 c κs = search needs
 
 returns-4 : tie.Need-returns-4
 unfolding unitRules
@@ -45,8 +45,8 @@ returns-4 c = search first-cases depth 20
 cleared-pending-requires : tie.Need-cleared-pending-requires
 cleared-pending-requires c κs = search needs
 
-report-requires-5 : tie.Need-report-requires-5
-report-requires-5 c κs = search needs
+check-requires-4 : tie.Need-check-requires-4
+check-requires-4 c κs = search needs
 
 returns-5 : tie.Need-returns-5
 unfolding unitRules
@@ -63,19 +63,19 @@ pub by-unit-spec : {M : Type 1} → statement M
 by-unit-spec =
     tie.close
     (tie.spec
-    report-requires
+    check-requires
     returns
     barred-requires
-    report-requires-2
+    report-requires
     returns-2
     stray-requires
-    report-requires-3
+    check-requires-2
     returns-3
     reset-pending-requires
-    report-requires-4
+    check-requires-3
     returns-4
     cleared-pending-requires
-    report-requires-5
+    check-requires-4
     returns-5
     by-block-requires
     returns-6)
