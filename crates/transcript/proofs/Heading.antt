@@ -1,0 +1,103 @@
+-- The header as the program reads it, which keeps nine ids, says what the readable header says.
+-- Assumes nothing.
+use Prim.Native.Nat.{ℕ, zero, suc, _+_, _≤_, _<_}
+use mathlib.Core.Path.{_≡_, refl, sym, ap, _∙_}
+use mathlib.Core.Bool.{true, false, or-true, false≢true}
+use mathlib.Core.List.{List, [], _∷_, _++_, append-nil}
+use lib.ListN.{length, take, set, replicate, length-set}
+use lib.Seq.{append-snoc, take-suc-set, length-take-le}
+use lib.Dec.{ltb, eqb}
+use native.Mathlib.Nat.{add-zero, zero-add}
+use native.Mathlib.Numerals.{add-one}
+use native.Mathlib.Omega.{arith}
+use borrow.Author.Tests.{ltb-true, ltb-false, lt-ltb}
+use Rattle.table.specs.Setup.{badList}
+use Rattle.wire.proofs.Table.{cond-ind}
+use Rattle.transcript.specs.Numbers.{numberAt, byteAt, idAt, given}
+use Rattle.transcript.specs.Header.{Heading, malformed, heading, idsThen, headingOf}
+use Rattle.transcript.specs.Reading.{noIds, keptAt, leastOfNine, idsFrom, afterIds, headerOf}
+use Rattle.transcript.specs.declared.number.Number.{Number}
+use Rattle.transcript.specs.declared.number.Number.the-variants as number
+use Rattle.transcript.specs.declared.header.Ids.{Ids}
+use Rattle.transcript.specs.declared.header.Header.{Header}
+
+-- ---- the ids that are kept
+
+-- ids kept from place i on
+abbrev keptAll : List ℕ → ℕ → List ℕ → List ℕ
+keptAll a i [] = a
+keptAll a i (x ∷ xs) = keptAll (keptAt a i x) (i + 1) xs
+
+kept-length : (a : List ℕ) (i x : ℕ) → length (keptAt a i x) ≡ length a
+kept-length a i x = cond-ind (λ (l : List ℕ). length l ≡ length a) (ltb i 9) (λ t. length-set a i x) (λ t. refl)
+
+all-length : (a : List ℕ) (i : ℕ) (ids : List ℕ) → length (keptAll a i ids) ≡ length a
+all-length a i [] = refl
+all-length a i (x ∷ xs) = all-length (keptAt a i x) (i + 1) xs ∙ kept-length a i x
+
+-- nine at most are kept as they are
+all-kept : (a : List ℕ) (i : ℕ) (ids : List ℕ) → length a ≡ 9 → i + length ids ≤ 9 → take (i + length ids) (keptAll a i ids) ≡ take i a ++ ids
+all-kept a i [] h l = simp (add-zero, append-nil)
+all-kept a i (x ∷ xs) h l =
+    let e : i + suc (length xs) ≡ i + 1 + length xs = omega arith in
+    rw (e, lt-ltb i 9 (omega arith))
+    (all-kept (set a i x) (i + 1) xs (length-set a i x ∙ h) (omega arith) ∙ rw (add-one i, take-suc-set a i x (omega arith)) (append-snoc (take i a) x xs))
+
+-- ---- lists of ids
+
+long-bad : (ids : List ℕ) → 8 < length ids → badList ids ≡ true
+unfolding badList
+long-bad ids h = rw (lt-ltb _ _ h) (or-true (eqb (length ids) 0))
+
+-- the same list for setup: the same ids, or a list that is refused as the other is
+abbrev pub Alike : List ℕ → List ℕ → Type 0
+Alike kept ids = (badList kept ≡ badList ids) × (badList ids ≡ false → kept ≡ ids)
+
+alike : (ids : List ℕ) → Alike (take (leastOfNine (length ids)) (keptAll (replicate 9 0) 0 ids)) ids
+alike ids =
+    cond-ind (λ (n : ℕ). Alike (take n (keptAll (replicate 9 0) 0 ids)) ids) (ltb (length ids) 9)
+    (λ t. few (ltb-true _ _ t))
+    (λ t. many (ltb-false _ _ t))
+  where
+    few : length ids < 9 → Alike (take (length ids) (keptAll (replicate 9 0) 0 ids)) ids
+    few h =
+        let e : take (length ids) (keptAll (replicate 9 0) 0 ids) ≡ ids = simp zero-add at (all-kept (replicate 9 0) 0 ids refl (omega arith)) in
+        (ap badList e, λ f. e)
+
+    many : 9 ≤ length ids → Alike (take 9 (keptAll (replicate 9 0) 0 ids)) ids
+    many h =
+        let room : 9 ≤ length (keptAll (replicate 9 0) 0 ids) = omega (arith, all-length (replicate 9 0) 0 ids) in
+        let nine : 8 < length (take 9 (keptAll (replicate 9 0) 0 ids)) = omega (arith, length-take-le 9 (keptAll (replicate 9 0) 0 ids) room) in
+        let bad : badList ids ≡ true = long-bad ids h in
+        (long-bad _ nine ∙ sym bad, λ f. absurd (false≢true (sym f ∙ bad)))
+
+-- ---- the header
+
+abbrev pub Same : Heading → Header → Type 0
+Same malformed h = h .ok ≡ false
+Same (heading ids mask first next) h =
+    (h .ok ≡ true) × (h .mask ≡ mask) × (h .first ≡ first) × (h .next ≡ next) × Alike (take (h .count) (h .ids)) ids
+
+given-both : {A B : Type 0} (R : A → B → Type 0) {a : A} {b : B} (r : Number) (f : ℕ → ℕ → A) (g : ℕ → ℕ → B) → R a b → ((v next : ℕ) → R (f v next) (g v next)) → R (given a r f) (given b r g)
+unfolding given
+given-both R number.Bad f g h k = h
+given-both R (number.Value v next) f g h k = k v next
+
+module _ (s : List ℕ) where
+  ids-both :
+      (n at : ℕ) (a : List ℕ) (i : ℕ) (f : List ℕ → ℕ → Heading) (g : Ids → Header) → Same malformed (g noIds)
+      → ((ids : List ℕ) (next : ℕ) → length ids ≡ n → Same (f ids next) (g (record { next = next; ids = keptAll a i ids; ok = true })))
+      → Same (idsThen n s at f) (g (idsFrom n s at a i))
+  unfolding idsThen idsFrom
+  ids-both zero at a i f g h k = k [] at refl
+  ids-both (suc n) at a i f g h k =
+      given-both (λ x y. Same x (g y)) (idAt s at) _ _ h
+      (λ id next. ids-both n next (keptAt a i id) (i + 1) (λ ids after. f (id ∷ ids) after) g h (λ ids after e. k (id ∷ ids) after (ap suc e)))
+
+  pub headings-same : Same (headingOf s) (headerOf s)
+  unfolding headingOf headerOf afterIds
+  headings-same =
+      given-both Same (byteAt s 0) _ _ refl (λ count a.
+      ids-both count a (replicate 9 0) 0 _ (afterIds s count) refl (λ ids b e.
+      given-both Same (byteAt s b) _ _ refl (λ mask c.
+      given-both Same (numberAt s c) _ _ refl (λ first next. (refl, refl, refl, refl, rw (← e) (alike ids))))))

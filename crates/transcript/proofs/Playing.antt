@@ -1,0 +1,206 @@
+-- The player, case by case: opened, a turn taken, a line handed over, closed.
+-- Assumes nothing.
+use Prim.Native.Nat.{ℕ, _+_, _-_, _^_, _≤_, _<_}
+use mathlib.Core.Path.{_≡_, _∙_}
+use mathlib.Core.Bool.{Bool, true, false, not}
+use mathlib.Core.List.{List, []}
+use lib.ListN.{length, take, drop, replicate}
+use lib.Dec.{ltb}
+use native.Mathlib.Omega.{arith}
+use borrow.Author.Tests.{ltb-true, eq-eqb, ne-eqb, lt-ltb, le-ltb, le-leb, lt-leb, not-true, not-false}
+use Rattle.wire.specs.Paper
+use Rattle.wire.proofs.Table.{cond-ind}
+use Rattle.task.specs.Map.{liveCount}
+use Rattle.table.specs.Tables.{zeroTable}
+use Rattle.table.specs.declared.Table.{Table}
+use Rattle.engine.specs.Calls.{messageOf, startOf, finishOf, totalResetOf, Answers}
+use Rattle.engine.specs.declared.Outcome.{Outcome}
+use Rattle.transcript.specs.Numbers.{numberAt, byteAt, given}
+use Rattle.transcript.specs.Reading.{leastOfNine, idsFrom, afterIds, headerOf}
+use Rattle.transcript.specs.Events.{eventAt}
+use Rattle.transcript.specs.Lines.{emptyLine, pushAll, endOk, endBad, endRefused, Handed}
+use Rattle.transcript.specs.Text.{longest, partOf, called}
+use Rattle.transcript.specs.Playing.{player, standing, standingAt, isPlaying, isRefused, setBy, byHeader, opened, idled, byNext, turned, turnLine, stepOf, lineLeft, Advances, lastText, lastLine}
+use Rattle.transcript.specs.declared.number.Number.{Number}
+use Rattle.transcript.specs.declared.number.Number.the-variants as number
+use Rattle.transcript.specs.declared.header.Header.{Header}
+use Rattle.transcript.specs.declared.event.Event.{Event}
+use Rattle.transcript.specs.declared.event.Event.the-variants.{Message, Start, Finish, TotalReset}
+use Rattle.transcript.specs.declared.event.Next.{Next}
+use Rattle.transcript.specs.declared.event.Next.the-variants.{Is, Bad}
+use Rattle.transcript.specs.declared.line.Line.{Line}
+use Rattle.transcript.specs.declared.play.State.the-variants as state
+use Rattle.transcript.specs.declared.play.Player.{Player}
+use Rattle.transcript.specs.declared.play.Turn.{Turn}
+
+-- ---- the header keeps nine ids at most
+
+abbrev AtMostNine : Header → Type 0
+AtMostNine h = h .count ≤ 9
+
+given-each : (P : Header → Type 0) {h : Header} (r : Number) (f : ℕ → ℕ → Header) → P h → ((v next : ℕ) → P (f v next)) → P (given h r f)
+unfolding given
+given-each P number.Bad f h k = h
+given-each P (number.Value v next) f h k = k v next
+
+least : (n : ℕ) → leastOfNine n ≤ 9
+least n = cond-ind (λ (m : ℕ). m ≤ 9) (ltb n 9) (λ t. omega (arith, ltb-true n 9 t)) (λ t. omega arith)
+
+pub at-most-nine : (s : List ℕ) → headerOf s .count ≤ 9
+unfolding headerOf afterIds
+at-most-nine s =
+    given-each AtMostNine (byteAt s 0) _ (omega arith) (λ count a.
+    cond-ind AtMostNine (idsFrom count s a (replicate 9 0) 0 .ok)
+    (λ t. given-each AtMostNine (byteAt s (idsFrom count s a (replicate 9 0) 0 .next)) _ (omega arith) (λ mask b.
+    given-each AtMostNine (numberAt s b) _ (omega arith) (λ first next. least count)))
+    (λ t. omega arith))
+
+pub few-ids : (s : List ℕ) {h : Header} → h ≡ headerOf s → h .count ≤ 9
+few-ids s e = rw e (at-most-nine s)
+
+-- ---- open
+
+module _ (s : List ℕ) {p : Player} where
+  pub too-long : {t : Table} → longest < length s → t ≡ zeroTable → p ≡ standing t state.Bad → p ≡ opened s
+  unfolding opened
+  too-long l z q = q ∙ rw (z, lt-ltb _ _ l)
+
+  module _ (l : length s ≤ longest) {h : Header} (e : h ≡ headerOf s) where
+    pub bad-header : {t : Table} → not (h .ok) ≡ true → t ≡ zeroTable → p ≡ standing t state.Bad → p ≡ opened s
+    unfolding opened byHeader
+    bad-header n z q = q ∙ rw (z, le-ltb _ _ l, ← e, not-true (h .ok) n)
+
+    module _ (n : not (h .ok) ≡ false) {o : Outcome} (f : o ≡ setBy h) {b : Bool} (g : b ≡ isRefused (o .answer)) where
+      pub refused-setup : b ≡ true → p ≡ standing (o .table) state.Refused → p ≡ opened s
+      unfolding opened byHeader
+      refused-setup r q = q ∙ rw (le-ltb _ _ l, ← e, not-false (h .ok) n, ← f, ← g, r)
+
+      pub set-up : b ≡ false → p ≡ player (o .table) (h .next) 0 state.Playing → p ≡ opened s
+      unfolding opened byHeader
+      set-up r q = q ∙ rw (le-ltb _ _ l, ← e, not-false (h .ok) n, ← f, ← g, r)
+
+pub ruleset open-cases = (too-long, bad-header, refused-setup, set-up)
+
+-- ---- a part of the input
+
+module _ (s : List ℕ) (from until : ℕ) where
+  pub backward : until < from → [] ≡ partOf s from until
+  unfolding partOf
+  backward h = simp (lt-ltb _ _ h)
+
+  module _ (h : from ≤ until) where
+    pub past-end : length s < until → [] ≡ partOf s from until
+    unfolding partOf
+    past-end l = simp (le-ltb _ _ h, lt-ltb _ _ l)
+
+    pub within : until ≤ length s → take (until - from) (drop from s) ≡ partOf s from until
+    unfolding partOf
+    within l = simp (le-ltb _ _ h, le-ltb _ _ l)
+
+pub ruleset part-cases = (backward, past-end, within)
+
+-- ---- an event, called
+
+module _ (t : Table) (s : List ℕ) {e : Event} {o : Outcome} where
+  pub call-message :
+      {from until : ℕ} {m buf left : List ℕ} → e ≡ Message from until → m ≡ partOf s from until → Answers (messageOf t m 64) buf o left
+      → o ≡ called t s e
+  unfolding called
+  call-message q p a = a .outcome ∙ rw (q, p)
+
+  pub call-start : {unit : ℕ} → e ≡ Start unit → o ≡ startOf t unit → o ≡ called t s e
+  unfolding called
+  call-start q a = a ∙ rw q
+
+  pub call-finish :
+      {arrival status key code qualifier : ℕ} {buf left : List ℕ} → e ≡ Finish arrival status key code qualifier
+      → Answers (finishOf t arrival (Paper.statusByte status) (Paper.sense key code qualifier) 64) buf o left → o ≡ called t s e
+  unfolding called
+  call-finish q a = a .outcome ∙ rw q
+
+  pub call-reset : e ≡ TotalReset → o ≡ totalResetOf t → o ≡ called t s e
+  unfolding called
+  call-reset q a = a ∙ rw q
+
+pub ruleset call-cases = (call-message, call-start, call-finish, call-reset)
+
+-- ---- a turn
+
+module _ (p : Player) (s : List ℕ) {b : Bool} (e : b ≡ isPlaying (p .state)) where
+  pub not-playing : {r : Turn} → not b ≡ true → r ≡ idled p → r ≡ turned p s
+  unfolding turned
+  not-playing n q = q ∙ rw (← e, not-true b n)
+
+  module _ (n : not b ≡ false) where
+    pub at-end : {after : Player} {r : Turn} → length s ≤ p .at → after ≡ standingAt p state.Done → r ≡ idled after → r ≡ turned p s
+    unfolding turned
+    at-end l f q = q ∙ rw (f, ← e, not-false b n, le-leb _ _ l)
+
+    module _ (l : p .at < length s) where
+      pub last-number : {after : Player} {r : Turn} → p .number ≡ 2 ^ 64 - 1 → after ≡ standingAt p state.Bad → r ≡ idled after → r ≡ turned p s
+      unfolding turned
+      last-number z f q = q ∙ rw (f, ← e, not-false b n, lt-leb _ _ l, eq-eqb _ _ z)
+
+      module _ (z : p .number ≡ 2 ^ 64 - 1 → ⊥) {x : Next} (g : x ≡ eventAt s (p .at)) where
+        by-event : turned p s ≡ byNext p s x
+        unfolding turned
+        by-event = rw (← e, not-false b n, lt-leb _ _ l, ne-eqb _ _ z, ← g)
+
+        pub bad-event : {after : Player} {r : Turn} → x ≡ Bad → after ≡ standingAt p state.Bad → r ≡ idled after → r ≡ turned p s
+        unfolding byNext
+        bad-event k f q = q ∙ rw (f, by-event, k)
+
+        pub event-played :
+            {event : Event} {next : ℕ} {o : Outcome} → x ≡ Is event next → o ≡ called (p .table) s event
+            → _≡_ {A = Turn} (record { player = player (o .table) next (p .number + 1) state.Playing; answer = o .answer; played = true }) (turned p s)
+        unfolding byNext
+        event-played k f = rw (f, by-event, k)
+
+pub ruleset turn-cases = (not-playing, at-end, last-number, bad-event, event-played)
+
+-- ---- advance
+
+module _ (p : Player) (s buf : List ℕ) where
+  pub no-room : length buf < 64 → Advances p s buf (record { player = p; wrote = 0 }) buf
+  unfolding stepOf lineLeft
+  no-room l = record { step = rw (lt-ltb _ _ l); buffer = rw (lt-ltb _ _ l) }
+
+  module _ (l : 64 ≤ length buf) {t : Turn} (e : t ≡ turned p s) where
+    pub nothing-played : not (t .played) ≡ true → Advances p s buf (record { player = t .player; wrote = 0 }) buf
+    unfolding stepOf lineLeft
+    nothing-played n = record { step = rw (le-ltb _ _ l, ← e, not-true (t .played) n); buffer = rw (le-ltb _ _ l, ← e, not-true (t .played) n) }
+
+    pub line-written :
+        {m : Line} {n : ℕ} {left : List ℕ} → not (t .played) ≡ false → m ≡ turnLine t → Handed m buf n left
+        → Advances p s buf (record { player = t .player; wrote = n }) left
+    unfolding stepOf lineLeft
+    line-written k f h = record {
+      step = rw (le-ltb _ _ l, ← e, not-false (t .played) k, ← f, h .length);
+      buffer = h .buffer ∙ rw (le-ltb _ _ l, ← e, not-false (t .played) k, ← f);
+    }
+
+pub ruleset advance-cases = (no-room, nothing-played, line-written)
+
+-- ---- close
+
+module _ (p : Player) {r : Line} where
+  pub still-playing : p .state ≡ state.Playing → r ≡ emptyLine → r ≡ lastLine p
+  unfolding lastText pushAll
+  still-playing e q = q ∙ rw e
+
+  pub input-done : {live : ℕ} → p .state ≡ state.Done → live ≡ liveCount (p .table .live) → r ≡ pushAll emptyLine (endOk live) → r ≡ lastLine p
+  unfolding lastText
+  input-done e n q = q ∙ rw (e, n)
+
+  pub input-bad : p .state ≡ state.Bad → r ≡ pushAll emptyLine endBad → r ≡ lastLine p
+  unfolding lastText
+  input-bad e q = q ∙ rw e
+
+  pub setup-refused : p .state ≡ state.Refused → r ≡ pushAll emptyLine (endRefused 11) → r ≡ lastLine p
+  unfolding lastText
+  setup-refused e q = q ∙ rw e
+
+pub ruleset last-cases = (still-playing, input-done, input-bad, setup-refused)
+
+pub handed-same : {l m : Line} (buf : List ℕ) {n : ℕ} {left : List ℕ} → m ≡ l → Handed m buf n left → Handed l buf n left
+handed-same buf e h = rw e at h

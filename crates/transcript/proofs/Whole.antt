@@ -1,0 +1,76 @@
+-- Every line fits its 64 bytes, so what is written of it is the whole line.
+-- Assumes nothing.
+use Prim.Native.Nat.{ℕ, zero, suc, _+_, _/_, _≤_, _<_, zero-le}
+use mathlib.Core.Path.{_≡_, refl, sym, subst, _∙_}
+use mathlib.Core.List.{List, [], _∷_, _++_, append-nil}
+use lib.ListN.{length, take, set, replicate, length-set, length-append}
+use lib.Seq.{append-snoc, take-suc-set}
+use lib.Dec.{ltb}
+use native.Mathlib.Nat.{add-zero, zero-add}
+use native.Mathlib.Numerals.{add-one}
+use native.Mathlib.Omega.{arith}
+use borrow.Author.Tests.{lt-ltb}
+use Rattle.task.specs.Map.{liveCount}
+use Rattle.wire.proofs.Table.{cond-ind}
+use Rattle.engine.specs.declared.Answer.{Answer}
+use Rattle.engine.specs.declared.Answer.the-variants.{Ready, Accepted, Response, Status, Started, Reset, Refused}
+use Rattle.transcript.specs.Lines.{pushed, pushAll, decimalIn, answerText, lineOf, endOk, endBad, endRefused}
+use Rattle.transcript.specs.Playing.{lastText}
+use Rattle.transcript.specs.Promises.{Whole}
+use Rattle.transcript.specs.declared.line.Line.{Line}
+use Rattle.transcript.specs.declared.play.State.{State}
+use Rattle.transcript.specs.declared.play.State.the-variants as state
+use Rattle.transcript.specs.declared.play.Player.{Player}
+
+-- a byte put into a line that has room for it
+put-one : (bytes : List ℕ) (len b : ℕ) → len < 64 → pushed (record { bytes = bytes; len = len }) b ≡ record { bytes = set bytes len b; len = len + 1 }
+unfolding pushed
+put-one bytes len b h = rw (lt-ltb len 64 h)
+
+-- n bytes of a line stand once bs is put, and they are the text
+abbrev Put : Line → List ℕ → ℕ → List ℕ → Type 0
+Put l bs n text = (pushAll l bs .len ≡ n) × (take n (pushAll l bs .bytes) ≡ text)
+
+put : (bytes : List ℕ) (len : ℕ) (bs : List ℕ) → length bytes ≡ 64 → len + length bs ≤ 64 → Put (record { bytes = bytes; len = len }) bs (len + length bs) (take len bytes ++ bs)
+unfolding pushAll
+put bytes len [] h l = (simp add-zero, simp (add-zero, append-nil))
+put bytes len (b ∷ bs) h l =
+    let e : len + suc (length bs) ≡ len + 1 + length bs = omega arith in
+    let r = put (set bytes len b) (len + 1) bs (length-set bytes len b ∙ h) (omega arith) in
+    subst (λ (x : Line). Put x bs (len + suc (length bs)) (take len bytes ++ b ∷ bs)) (sym (put-one bytes len b (omega arith)))
+    (r .0 ∙ sym e, rw e (r .1 ∙ rw (add-one len, take-suc-set bytes len b (omega arith)) (append-snoc (take len bytes) b bs)))
+
+pub whole : (bs : List ℕ) → length bs ≤ 64 → Whole bs
+whole bs h =
+    let r = put (replicate 64 0) 0 bs refl (omega arith) in
+    (simp zero-add at (r .0), simp zero-add at (r .1))
+
+decimal-short : (k n : ℕ) → length (decimalIn k n) ≤ k
+unfolding decimalIn
+decimal-short zero n = zero-le
+decimal-short (suc k) n =
+    cond-ind (λ (ds : List ℕ). length ds ≤ suc k) (ltb n 10) (λ t. omega arith)
+    (λ t. simp length-append (omega (arith, decimal-short k (n / 10))))
+
+text-short : (a : Answer) → length (answerText a) ≤ 30
+unfolding answerText
+text-short Ready = omega arith
+text-short (Accepted n) = omega (arith, decimal-short 20 n)
+text-short (Response tag code) = omega arith
+text-short (Status tag status sense) = omega arith
+text-short (Started n) = omega (arith, decimal-short 20 n)
+text-short Reset = omega arith
+text-short (Refused n) = omega (arith, decimal-short 20 (n .0))
+
+pub line-whole : (n : ℕ) (a : Answer) → Whole (lineOf n a)
+line-whole n a = whole (lineOf n a) (simp length-append (omega (arith, decimal-short 20 n, text-short a)))
+
+pub last-whole : (p : Player) → Whole (lastText p)
+unfolding lastText
+last-whole p = by-state (p .state) refl
+  where
+    by-state : (st : State) → p .state ≡ st → Whole (lastText p)
+    by-state state.Playing e = rw e (whole [] (omega arith))
+    by-state state.Done e = rw e (whole (endOk (liveCount (p .table .live))) (simp length-append (omega (arith, decimal-short 20 (liveCount (p .table .live))))))
+    by-state state.Bad e = rw e (whole endBad (omega arith))
+    by-state state.Refused e = rw e (whole (endRefused 11) (simp length-append (omega (arith, decimal-short 20 11))))

@@ -1,0 +1,117 @@
+-- `transcript::event::finish_at` meets its contract. Assumes nothing.
+use Rattle.transcript.specs.Events.{finishAt}
+use Rattle.transcript.proofs.Numbers.{given-cases}
+use borrow.Author.Needs.{needs}
+use Rattle.transcript.proofs.event.finish_at.Statement.{statement}
+use Rattle.transcript.proofs.event.finish_at.Tie as tie
+
+number-at-requires : tie.Need-number-at-requires
+number-at-requires c κs = search needs
+
+enum-known-arrival : tie.Need-enum-known-arrival
+enum-known-arrival c = search needs
+
+enum-told : tie.Need-enum-told
+enum-told c = search needs
+
+returns : tie.Need-returns
+unfolding finishAt
+returns c = search given-cases
+
+byte-at-requires : tie.Need-byte-at-requires
+byte-at-requires c κs = search needs
+
+enum-known-status : tie.Need-enum-known-status
+enum-known-status c = search needs
+
+enum-told-2 : tie.Need-enum-told-2
+enum-told-2 c = search needs
+
+returns-2 : tie.Need-returns-2
+unfolding finishAt
+returns-2 c = search given-cases
+
+byte-at-requires-2 : tie.Need-byte-at-requires-2
+byte-at-requires-2 c κs = search needs
+
+enum-known-key : tie.Need-enum-known-key
+enum-known-key c = search needs
+
+enum-told-3 : tie.Need-enum-told-3
+enum-told-3 c = search needs
+
+returns-3 : tie.Need-returns-3
+unfolding finishAt
+returns-3 c = search given-cases
+
+byte-at-requires-3 : tie.Need-byte-at-requires-3
+byte-at-requires-3 c κs = search needs
+
+enum-known-code : tie.Need-enum-known-code
+enum-known-code c = search needs
+
+enum-told-4 : tie.Need-enum-told-4
+enum-told-4 c = search needs
+
+returns-4 : tie.Need-returns-4
+unfolding finishAt
+returns-4 c = search given-cases
+
+byte-at-requires-4 : tie.Need-byte-at-requires-4
+byte-at-requires-4 c κs = search needs
+
+enum-known-qualifier : tie.Need-enum-known-qualifier
+enum-known-qualifier c = search needs
+
+enum-told-5 : tie.Need-enum-told-5
+enum-told-5 c = search needs
+
+returns-5 : tie.Need-returns-5
+unfolding finishAt
+returns-5 c = search given-cases
+
+cast-t19 : tie.Need-cast-t19
+cast-t19 c = search needs
+
+cast-t21 : tie.Need-cast-t21
+cast-t21 c = search needs
+
+cast-t23 : tie.Need-cast-t23
+cast-t23 c = search needs
+
+cast-t25 : tie.Need-cast-t25
+cast-t25 c = search needs
+
+returns-6 : tie.Need-returns-6
+unfolding finishAt
+returns-6 c = search given-cases
+
+pub finish-at-spec : {M : Type 1} → statement M
+finish-at-spec =
+    tie.close
+    (tie.spec
+    number-at-requires
+    enum-known-arrival
+    enum-told
+    returns
+    byte-at-requires
+    enum-known-status
+    enum-told-2
+    returns-2
+    byte-at-requires-2
+    enum-known-key
+    enum-told-3
+    returns-3
+    byte-at-requires-3
+    enum-known-code
+    enum-told-4
+    returns-4
+    byte-at-requires-4
+    enum-known-qualifier
+    enum-told-5
+    returns-5
+    cast-t19
+    cast-t21
+    cast-t23
+    cast-t25
+    returns-6)

@@ -1,0 +1,38 @@
+-- `transcript::line::ok_line` meets its contract. Assumes nothing.
+use Rattle.transcript.proofs.Lines.{line-cases}
+use borrow.Author.Needs.{needs}
+use Rattle.transcript.proofs.line.ok_line.Statement.{statement}
+use Rattle.transcript.proofs.line.ok_line.Tie as tie
+
+empty-requires : tie.Need-empty-requires
+empty-requires c κs = search needs
+
+slice-aggregate-push-word : tie.Need-slice-aggregate-push-word
+slice-aggregate-push-word c = search needs
+
+push-word-requires : tie.Need-push-word-requires
+push-word-requires c κs = search needs
+
+push-decimal-requires : tie.Need-push-decimal-requires
+push-decimal-requires c κs = search needs
+
+slice-aggregate-push-word-2 : tie.Need-slice-aggregate-push-word-2
+slice-aggregate-push-word-2 c = search needs
+
+push-word-requires-2 : tie.Need-push-word-requires-2
+push-word-requires-2 c κs = search needs
+
+returns : tie.Need-returns
+returns c = search line-cases
+
+pub ok-line-spec : {M : Type 1} → statement M
+ok-line-spec =
+    tie.close
+    (tie.spec
+    empty-requires
+    slice-aggregate-push-word
+    push-word-requires
+    push-decimal-requires
+    slice-aggregate-push-word-2
+    push-word-requires-2
+    returns)

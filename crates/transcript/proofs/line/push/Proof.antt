@@ -1,0 +1,23 @@
+-- `transcript::line::push` meets its contract. Assumes nothing.
+use Rattle.transcript.specs.Lines.{pushed}
+use Rattle.transcript.proofs.Choices.{choices}
+use borrow.Author.Needs.{needs}
+use Rattle.transcript.proofs.line.push.Statement.{statement}
+use Rattle.transcript.proofs.line.push.Tie as tie
+
+returns : tie.Need-returns
+unfolding pushed
+returns c = search choices
+
+element-write-l : tie.Need-element-write-l
+element-write-l c = search needs
+
+add-l : tie.Need-add-l
+add-l c = search needs
+
+returns-2 : tie.Need-returns-2
+unfolding pushed
+returns-2 c = search choices
+
+pub push-spec : {M : Type 1} → statement M
+push-spec = tie.close (tie.spec returns element-write-l add-l returns-2)

@@ -1,0 +1,131 @@
+-- The lines of a transcript: the event's number in decimal, then a word and its numbers. Tags are four upper-case hex digits, codes and status fields two.
+use Prim.Native.Nat.{ℕ, zero, suc, _+_, _/_, _%_}
+use mathlib.Core.List.{List, [], _∷_, _++_}
+use mathlib.Core.Path.{_≡_}
+use mathlib.Core.Bool.{cond, _||_}
+use lib.ListN.{length, set, replicate, take, drop}
+use lib.Dec.{ltb}
+use Rattle.wire.specs.declared.codes.Sense.{Sense}
+use Rattle.engine.specs.declared.Answer.{Answer}
+use Rattle.engine.specs.declared.Answer.the-variants.{Ready, Accepted, Response, Status, Started, Reset, Refused}
+use Rattle.transcript.specs.declared.line.Line.{Line}
+
+-- ---- words, in ASCII
+
+abbrev pub space : ℕ
+space = 32
+
+abbrev pub newline : ℕ
+newline = 10
+
+-- " accepted "
+abbrev pub acceptedWord : List ℕ
+acceptedWord = 32 ∷ 97 ∷ 99 ∷ 99 ∷ 101 ∷ 112 ∷ 116 ∷ 101 ∷ 100 ∷ 32 ∷ []
+
+-- " response"
+abbrev pub responseWord : List ℕ
+responseWord = 32 ∷ 114 ∷ 101 ∷ 115 ∷ 112 ∷ 111 ∷ 110 ∷ 115 ∷ 101 ∷ []
+
+-- " status"
+abbrev pub statusWord : List ℕ
+statusWord = 32 ∷ 115 ∷ 116 ∷ 97 ∷ 116 ∷ 117 ∷ 115 ∷ []
+
+-- " started "
+abbrev pub startedWord : List ℕ
+startedWord = 32 ∷ 115 ∷ 116 ∷ 97 ∷ 114 ∷ 116 ∷ 101 ∷ 100 ∷ 32 ∷ []
+
+-- " refused "
+abbrev pub refusedWord : List ℕ
+refusedWord = 32 ∷ 114 ∷ 101 ∷ 102 ∷ 117 ∷ 115 ∷ 101 ∷ 100 ∷ 32 ∷ []
+
+-- " reset"
+abbrev pub resetWord : List ℕ
+resetWord = 32 ∷ 114 ∷ 101 ∷ 115 ∷ 101 ∷ 116 ∷ []
+
+-- "end"
+abbrev pub endWord : List ℕ
+endWord = 101 ∷ 110 ∷ 100 ∷ []
+
+-- " ok "
+abbrev pub okWord : List ℕ
+okWord = 32 ∷ 111 ∷ 107 ∷ 32 ∷ []
+
+-- " bad"
+abbrev pub badWord : List ℕ
+badWord = 32 ∷ 98 ∷ 97 ∷ 100 ∷ []
+
+-- ---- numbers
+
+-- decimal, of at most so many digits
+unfoldable pub decimalIn : ℕ → ℕ → List ℕ
+decimalIn zero n = []
+decimalIn (suc k) n = cond (ltb n 10) ((48 + n) ∷ []) (decimalIn k (n / 10) ++ ((48 + n % 10) ∷ []))
+
+-- a number below 2^64 has 20 digits at most
+abbrev pub decimalOf : ℕ → List ℕ
+decimalOf n = decimalIn 20 n
+
+-- an upper-case hex digit
+abbrev pub digitOf : ℕ → ℕ
+digitOf d = cond (ltb d 10) (48 + d) (55 + d)
+
+-- a space and two digits; a space and four
+abbrev pub hexOf : ℕ → List ℕ
+hexOf b = space ∷ digitOf (b / 16 % 16) ∷ digitOf (b % 16) ∷ []
+
+abbrev pub hexWord : ℕ → List ℕ
+hexWord w = space ∷ digitOf (w / 256 / 16 % 16) ∷ digitOf (w / 256 % 16) ∷ digitOf (w % 256 / 16 % 16) ∷ digitOf (w % 256 % 16) ∷ []
+
+-- ---- the lines
+
+-- a status's sense fields
+abbrev pub senseText : Sense → List ℕ
+senseText s = hexOf (s .key) ++ (hexOf (s .code) ++ hexOf (s .qualifier))
+
+-- what stands behind the event's number
+unfoldable pub answerText : Answer → List ℕ
+answerText Ready = []
+answerText (Accepted n) = acceptedWord ++ decimalOf n
+answerText (Response tag code) = responseWord ++ (hexWord tag ++ hexOf (code .0))
+answerText (Status tag status sense) =
+    statusWord ++ (hexWord tag ++ (hexOf (status .0) ++ senseText sense))
+answerText (Started n) = startedWord ++ decimalOf n
+answerText Reset = resetWord
+answerText (Refused n) = refusedWord ++ decimalOf (n .0)
+
+-- the line of event n
+abbrev pub lineOf : ℕ → Answer → List ℕ
+lineOf n a = decimalOf n ++ (answerText a ++ (newline ∷ []))
+
+-- the last line: `end ok` and the live count, `end bad`, `end refused 11`
+abbrev pub endOk : ℕ → List ℕ
+endOk live = endWord ++ (okWord ++ (decimalOf live ++ (newline ∷ [])))
+
+abbrev pub endBad : List ℕ
+endBad = endWord ++ (badWord ++ (newline ∷ []))
+
+abbrev pub endRefused : ℕ → List ℕ
+endRefused n = endWord ++ (refusedWord ++ (decimalOf n ++ (newline ∷ [])))
+
+-- ---- a line in the making: 64 bytes, of which the first `len` are written; a full line takes no more
+
+abbrev pub emptyLine : Line
+emptyLine = record { bytes = replicate 64 0; len = 0 }
+
+unfoldable pub pushed : Line → ℕ → Line
+pushed l b = cond (ltb (l .len) 64) (record { bytes = set (l .bytes) (l .len) b; len = l .len + 1 }) l
+
+unfoldable pub pushAll : Line → List ℕ → Line
+pushAll l [] = l
+pushAll l (b ∷ bs) = pushAll (pushed l b) bs
+
+-- a line handed over into a lent buffer: its bytes at the front, the rest as it was; a buffer under 64 bytes gets nothing
+unfoldable pub handedOf : Line → List ℕ → ℕ
+handedOf l buf = cond (ltb (length buf) 64 || ltb 64 (l .len)) 0 (l .len)
+
+unfoldable pub handedIn : Line → List ℕ → List ℕ
+handedIn l buf = cond (ltb (length buf) 64 || ltb 64 (l .len)) buf (take (l .len) (l .bytes) ++ drop (l .len) buf)
+
+pub record Handed (l : Line) (buf : List ℕ) (n : ℕ) (left : List ℕ) : Type 0 where
+  pub length : n ≡ handedOf l buf
+  pub buffer : left ≡ handedIn l buf
