@@ -21,19 +21,19 @@ use Rattle.table.specs.Sound.{soundOf}
 use Rattle.table.specs.declared.Table.{Table}
 use Rattle.table.proofs.Views.{some-any, any-some}
 use Rattle.table.proofs.Exact.{check-is-exact}
-use Rattle.engine.specs.Rules.{factsOf}
-use Rattle.engine.specs.Management.{orderCode}
-use Rattle.engine.specs.Plans.{unitAsked, clearsSet, orderPlan}
+use Rattle.rules.specs.Rules.{factsOf}
+use Rattle.rules.specs.Management.{orderCode}
+use Rattle.rules.specs.declared.rules.Facts.{Facts}
+use Rattle.rules.specs.declared.manage.Order.{Order}
+use Rattle.rules.specs.declared.manage.Order.the-variants as order
+use Rattle.plan.specs.Plans.{unitAsked, clearsSet, orderPlan}
+use Rattle.plan.specs.declared.What.{What}
+use Rattle.plan.specs.declared.What.the-variants.{Manage}
+use Rattle.plan.specs.declared.Plan.{Plan}
+use Rattle.plan.specs.declared.Answer.{Answer}
+use Rattle.plan.specs.declared.Answer.the-variants as answer
 use Rattle.engine.specs.Calls.{heardOf, planAt, planFor, carried, replyPath, answeredTo, messageOf, replied}
 use Rattle.engine.specs.Promises.{Live, Agree, AbortDependsOnly}
-use Rattle.engine.specs.declared.rules.Facts.{Facts}
-use Rattle.engine.specs.declared.manage.Order.{Order}
-use Rattle.engine.specs.declared.manage.Order.the-variants as order
-use Rattle.engine.specs.declared.plan.What.{What}
-use Rattle.engine.specs.declared.plan.What.the-variants.{Manage}
-use Rattle.engine.specs.declared.plan.Plan.{Plan}
-use Rattle.engine.specs.declared.Answer.{Answer}
-use Rattle.engine.specs.declared.Answer.the-variants as answer
 use Rattle.engine.specs.declared.Outcome.{Outcome}
 
 -- ---- what two tables that agree have in common

@@ -30,17 +30,17 @@ use Rattle.table.specs.Sound.{soundOf}
 use Rattle.table.specs.declared.Path as path
 use Rattle.table.specs.declared.Unit as unit
 use Rattle.table.specs.declared.Table.{Table}
-use Rattle.engine.specs.Rules.{hasAca, factsOf}
-use Rattle.engine.specs.Plans.{askedOf, tagAsked, unitAsked, clearsSet, refusing, planOf, pathsAfter, unitsAfter}
+use Rattle.rules.specs.Rules.{hasAca, factsOf}
+use Rattle.rules.specs.declared.rules.Facts.{Facts}
+use Rattle.plan.specs.Plans.{askedOf, tagAsked, unitAsked, clearsSet, refusing, planOf, pathsAfter, unitsAfter}
+use Rattle.plan.specs.declared.What.{What}
+use Rattle.plan.specs.declared.Asked.{Asked}
+use Rattle.plan.specs.declared.Asked.the-variants.{By, Unread}
+use Rattle.plan.specs.declared.Deed.the-variants as deed
+use Rattle.plan.specs.declared.Plan.{Plan}
+use Rattle.plan.specs.declared.Answer.{Answer}
+use Rattle.plan.specs.declared.Answer.the-variants as answer
 use Rattle.engine.specs.Calls.{out, refused, heardOf, planAt, planFor, acted, carriedOut, replyPath, answeredTo, messageOf, choiceOn, sentSense, runningTask, setupOf, replied, Answers}
-use Rattle.engine.specs.declared.rules.Facts.{Facts}
-use Rattle.engine.specs.declared.plan.What.{What}
-use Rattle.engine.specs.declared.plan.Asked.{Asked}
-use Rattle.engine.specs.declared.plan.Asked.the-variants.{By, Unread}
-use Rattle.engine.specs.declared.plan.Deed.the-variants as deed
-use Rattle.engine.specs.declared.plan.Plan.{Plan}
-use Rattle.engine.specs.declared.Answer.{Answer}
-use Rattle.engine.specs.declared.Answer.the-variants as answer
 use Rattle.engine.specs.declared.Outcome.{Outcome}
 
 -- ---- one test after another

@@ -6,11 +6,11 @@ use native.Mathlib.Omega.{arith}
 use lib.ListN.{getD}
 use Rattle.wire.specs.Paper
 use Rattle.table.specs.declared.Table.{Table}
+use Rattle.plan.specs.declared.Answer.{Answer}
+use Rattle.plan.specs.declared.Answer.the-variants.{Ready, Accepted, Response, Status, Refused}
 use Rattle.engine.specs.Calls.{messageOf}
 use Rattle.engine.specs.Examples.{Example, quiet, full, command, zeros, again, buffer, examples}
 use Rattle.engine.specs.Drives.{WrongDrives}
-use Rattle.engine.specs.declared.Answer.{Answer}
-use Rattle.engine.specs.declared.Answer.the-variants.{Ready, Accepted, Response, Status, Refused}
 use Rattle.engine.specs.declared.Outcome.{Outcome}
 use Rattle.engine.proofs.Examples.{examples-hold}
 

@@ -11,10 +11,10 @@ use Rattle.task.specs.Scan.{considered, scanFrom}
 use Rattle.table.specs.Tables.{zeroTable, placeOf as pathPlace, anyLive, pickOf, hasRoom, accepted, endedBy, started, markedIn, attendedIn, alarmedIn, losersOf, acaClearedIn, finished}
 use Rattle.table.specs.Setup.{badList, freshPaths, pathsOf, freshTable, setupTable}
 use Rattle.table.specs.Sound.{countOk, pathsDistinct, unusedZero, recordsOk, unitsOk, clashes, soundOf}
-use Rattle.engine.specs.First.{firstThat}
-use Rattle.engine.specs.Rules.{factsOf, resumesUnmarked, missesResume, barred, stray, passesAttention, resetPending, clearedPending, roomRules, fieldRules, unitRules, blockRules, commandRules}
-use Rattle.engine.specs.Management.{orderCode}
-use Rattle.engine.specs.Plans.{orderPlan}
+use Rattle.rules.specs.First.{firstThat}
+use Rattle.rules.specs.Rules.{factsOf, resumesUnmarked, missesResume, barred, stray, passesAttention, resetPending, clearedPending, roomRules, fieldRules, unitRules, blockRules, commandRules}
+use Rattle.rules.specs.Management.{orderCode}
+use Rattle.plan.specs.Plans.{orderPlan}
 use Rattle.engine.specs.Calls.{heardOf, planAt, planFor, acted, carriedOut, answeredTo, messageOf, choiceOn, startOf, finishOf, setupOf, replied}
 use Rattle.engine.specs.Examples.{quiet, tasksFrom, full, examples, shared, orders, ExamplesHold, ExampleBytes, WorkedCalls, OrdersEnd}
 

@@ -18,7 +18,7 @@ use Rattle.task.specs.declared.select.Place.the-variants.{Anywhere, On}
 use Rattle.task.proofs.Ways.{never, cond-ind, both}
 use Rattle.task.proofs.Places.{first-picks}
 use Rattle.task.proofs.Selecting.{meets, picks-every, picks-on, picks-aca-on, picks-aca-from-on}
-use Rattle.table.specs.Tables.{placeOf, pathOf, unitAt, anyLive, withPaths, endedBy, markedIn, alarmedIn}
+use Rattle.table.specs.Tables.{placeOf, pathOf, unitAt, anyLive, hasRoom, withPaths, endedBy, markedIn, alarmedIn}
 use Rattle.table.specs.Sound.{ownedBy}
 use Rattle.table.specs.Promises.{Good, MayCome}
 use Rattle.table.specs.declared.Aca.{Aca}
@@ -26,25 +26,25 @@ use Rattle.table.specs.declared.Aca.the-variants.{Clear, Owned}
 use Rattle.table.specs.declared.Table.{Table}
 use Rattle.table.proofs.Views.{pick-at, none-left}
 use Rattle.table.proofs.Keeps.{accept-keeps, end-keeps, start-keeps as start-task-keeps, clear-keeps, mark-keeps, attend-keeps, alarm-keeps, warn-keeps, finish-keeps as finish-task-keeps, reset-keeps as reset-table-keeps, setup-is-good as setup-table-is-good}
-use Rattle.engine.specs.Rules.{hasAca, factsOf, asksAca, barred, stray, roomRules, fieldRules, unitRules, blockRules, commandRules, accepts, deciding}
-use Rattle.engine.specs.Management.{endsOf, tagOf, unitOf, isClearSet, orderCode}
-use Rattle.engine.specs.Plans.{kindOf, ruled, orderPlan, inMood}
+use Rattle.rules.specs.Rules.{hasAca, factsOf, asksAca, barred, stray, roomRules, fieldRules, unitRules, blockRules, commandRules, accepts, deciding}
+use Rattle.rules.specs.Management.{endsOf, tagOf, unitOf, isClearSet, orderCode}
+use Rattle.rules.specs.declared.rules.Facts.{Facts}
+use Rattle.rules.specs.declared.rules.Mood.{Mood}
+use Rattle.rules.specs.declared.rules.Mood.the-variants.{Stay, Mark, Unmark, Attend}
+use Rattle.rules.specs.declared.rules.Ruling.{Ruling}
+use Rattle.rules.specs.declared.rules.Ruling.the-variants.{Refuse, Respond, Report, Accept}
+use Rattle.rules.specs.declared.manage.Order.{Order}
+use Rattle.rules.specs.declared.manage.Order.the-variants.{AbortTask, AbortTaskSet, ClearTaskSet, ClearAca, UnitReset, TargetReset}
+use Rattle.rules.proofs.Entries.{noneAccepts, appliesAt, passed}
+use Rattle.plan.specs.Plans.{kindOf, ruled, orderPlan, inMood}
+use Rattle.plan.specs.declared.What.{What}
+use Rattle.plan.specs.declared.What.the-variants.{Command, Manage}
+use Rattle.plan.specs.declared.Change.the-variants as change
+use Rattle.plan.specs.declared.Plan.{Plan}
 use Rattle.engine.specs.Calls.{withParts, planAt, acted, carriedOut, choiceOn, setupOf}
 use Rattle.engine.specs.Promises.{MessageKeeps, StartKeeps, FinishKeeps, ResetKeeps, SetupIsGood}
-use Rattle.engine.specs.declared.rules.Facts.{Facts}
-use Rattle.engine.specs.declared.rules.Mood.{Mood}
-use Rattle.engine.specs.declared.rules.Mood.the-variants.{Stay, Mark, Unmark, Attend}
-use Rattle.engine.specs.declared.rules.Ruling.{Ruling}
-use Rattle.engine.specs.declared.rules.Ruling.the-variants.{Refuse, Respond, Report, Accept}
-use Rattle.engine.specs.declared.manage.Order.{Order}
-use Rattle.engine.specs.declared.manage.Order.the-variants.{AbortTask, AbortTaskSet, ClearTaskSet, ClearAca, UnitReset, TargetReset}
-use Rattle.engine.specs.declared.plan.What.{What}
-use Rattle.engine.specs.declared.plan.What.the-variants.{Command, Manage}
-use Rattle.engine.specs.declared.plan.Change.the-variants as change
-use Rattle.engine.specs.declared.plan.Plan.{Plan}
 use Rattle.engine.specs.declared.Outcome.{Outcome}
 use Rattle.engine.proofs.Outcomes.{each-message, each-start, each-finish, each-reset}
-use Rattle.engine.proofs.Entries.{noneAccepts, appliesAt, passed}
 
 -- a place that is not 8 is a listed path's
 listed-place : (t : Table) (id : ℕ) → pathOf t id < 8 → pathOf t id < t .count
@@ -78,24 +78,32 @@ owner-alone f g = cases (f .aca) (f .owned) (asksAca g) (f .busy)
     cases true true true true a b s = absurd (never refl b)
     cases true true true false a b s = (refl, refl)
 
--- the rules by their places in the list: 6 is rule 5, 7 is rule 6, 8 and 9 are rule 7
+-- the rules by their places in the list: 2 is rule 1's room, 6 is rule 5, 7 is rule 6, 8 and 9 are rule 7
 module _ (t : Table) (p tag lun : ℕ) (flags : Flags) (m : List ℕ) where
-  abbrev facts : Facts
+  abbrev pub facts : Facts
   facts = factsOf t p tag lun false
 
-  may-come : p < t .count → deciding facts flags m .gives ≡ Accept → MayCome t p tag lun (kindOf (flags .queue))
-  unfolding commandRules roomRules fieldRules unitRules blockRules factsOf noneAccepts
-  may-come l e =
-      let off : (k : ℕ) → appliesAt (commandRules facts flags m) k ≡ false = passed (commandRules facts flags m) (accepts m) refl e in
-      let by-owner : isAca (kindOf (flags .queue)) ≡ true → (ownedBy (unitAt t lun .aca) p ≡ true) × (anyLive t (acaOn lun) ≡ false) =
-      λ a. owner-alone facts flags (aca-asked (flags .queue) a) (off 8) (off 9) in
-      record {
-        listed = l;
-        attached = not-false _ (off 7);
-        free = off 6;
-        owner = λ a. owned-by (unitAt t lun .aca) p (by-owner a .0);
-        alone = λ a. by-owner a .1;
-      }
+  module _ (e : deciding facts flags m .gives ≡ Accept) where
+    none-applied : (k : ℕ) → appliesAt (commandRules facts flags m) k ≡ false
+    unfolding commandRules roomRules fieldRules unitRules blockRules noneAccepts
+    none-applied = passed (commandRules facts flags m) (accepts m) refl e
+
+    pub accept-has-room : hasRoom t ≡ true
+    unfolding commandRules roomRules factsOf
+    accept-has-room = not-false _ (none-applied 2)
+
+    may-come : p < t .count → MayCome t p tag lun (kindOf (flags .queue))
+    unfolding commandRules roomRules fieldRules unitRules blockRules factsOf
+    may-come l =
+        let by-owner : isAca (kindOf (flags .queue)) ≡ true → (ownedBy (unitAt t lun .aca) p ≡ true) × (anyLive t (acaOn lun) ≡ false) =
+        λ a. owner-alone facts flags (aca-asked (flags .queue) a) (none-applied 8) (none-applied 9) in
+        record {
+          listed = l;
+          attached = not-false _ (none-applied 7);
+          free = none-applied 6;
+          owner = λ a. owned-by (unitAt t lun .aca) p (by-owner a .0);
+          alone = λ a. by-owner a .1;
+        }
 
 -- ---- what an order leaves
 
@@ -178,7 +186,7 @@ module _ (t : Table) (g : Good t) (p : ℕ) (l : p < t .count) where
 
   plan-keeps : (m : List ℕ) (tag : ℕ) (w : What) → Good (carriedOut t (planAt t m p tag w))
   unfolding carriedOut acted planAt orderPlan
-  plan-keeps m tag (Command lun flags) = ruling-keeps (t .next) tag lun flags _ (may-come t p tag lun flags m l)
+  plan-keeps m tag (Command lun flags) = ruling-keeps (t .next) tag lun flags _ (λ e. may-come t p tag lun flags m e l)
   plan-keeps m tag (Manage o) =
       cond-ind (λ (pl : Plan). Good (carriedOut t pl)) (eqb (orderCode (asked o) m o .0) (Paper.done .0)) (λ e. done-keeps m o (eqb-true _ _ e)) (λ _. g)
 
@@ -187,7 +195,7 @@ GoodAfter o = Good (o .table)
 
 pub message-keeps : MessageKeeps
 message-keeps t m n g =
-    each-message GoodAfter t (λ _. g) m (λ path tag w l. plan-keeps t g (pathOf t path) (listed-place t path l) m tag w) n
+    each-message GoodAfter t (λ _. g) m (λ path tag w _ l. plan-keeps t g (pathOf t path) (listed-place t path l) m tag w) n
 
 -- the task that may go is on the unit
 on-unit : (a : Task) (aca : Bool) (unit : ℕ) → picks (cond aca (acaWaitingOn unit) (waitingOn unit)) a ≡ true → a .unit ≡ unit

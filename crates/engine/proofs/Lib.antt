@@ -4,8 +4,5 @@ pub mod Drives
 pub mod Promises
 pub mod Keeps
 pub mod Abort
-mod Outcomes
-mod Entries
-mod Cases
-mod Planning
+pub mod Outcomes
 mod Calling

@@ -1,11 +1,12 @@
 -- What holds at each way out of a call's definition holds of its outcome. Assumes nothing.
 use Prim.Native.Nat.{ℕ, _<_}
-use mathlib.Core.Path.{_≡_}
+use mathlib.Core.Path.{_≡_, refl}
 use mathlib.Core.Bool.{true, false, not}
 use mathlib.Core.List.{List}
 use lib.Dec.{eqb, ltb}
 use borrow.Author.Tests.{not-false, ltb-true}
 use Rattle.wire.specs.Paper
+use Rattle.wire.specs.Messages.{readOf}
 use Rattle.wire.specs.declared.codes.Refusal.{Refusal}
 use Rattle.wire.specs.declared.codes.StatusByte.{StatusByte}
 use Rattle.wire.specs.declared.codes.Sense.{Sense}
@@ -14,26 +15,32 @@ use Rattle.task.proofs.Ways.{cond-ind}
 use Rattle.table.specs.Tables.{pathOf, pathAt, isAttached, anyLive, pickOf, started, finished, resetOf}
 use Rattle.table.specs.Sound.{soundOf}
 use Rattle.table.specs.declared.Table.{Table}
+use Rattle.plan.specs.Plans.{askedOf}
+use Rattle.plan.specs.declared.What.{What}
+use Rattle.plan.specs.declared.Asked.{Asked}
+use Rattle.plan.specs.declared.Asked.the-variants.{By, Unread}
+use Rattle.plan.specs.declared.Plan.{Plan}
+use Rattle.plan.specs.declared.Answer.the-variants as answer
 use Rattle.engine.specs.Calls.{out, refused, heardOf, planAt, planFor, acted, carriedOut, carried, answeredTo, messageOf, choiceOn, startOf, mayFinish, sentSense, runningTask, finishOf, totalResetOf}
-use Rattle.engine.specs.declared.plan.What.{What}
-use Rattle.engine.specs.declared.plan.Asked.{Asked}
-use Rattle.engine.specs.declared.plan.Asked.the-variants.{By, Unread}
-use Rattle.engine.specs.declared.plan.Plan.{Plan}
-use Rattle.engine.specs.declared.Answer.the-variants as answer
 use Rattle.engine.specs.declared.Outcome.{Outcome}
 
 module _ (P : Outcome → Type 0) (t : Table) (stops : (n : Refusal) → P (refused t n)) where
-  -- a message: refused, or the plan for a listed path is carried out
-  module _ (m : List ℕ) (goes : (path tag : ℕ) (w : What) → pathOf t path < 8 → P (carried t path (planAt t m (pathOf t path) tag w))) where
-    asked : (a : Asked) → P (answeredTo t m a)
+  -- a message: refused, or the plan for what a listed path asks is carried out
+  module _ (m : List ℕ) (goes : (path tag : ℕ) (w : What) → askedOf (readOf m) ≡ By path tag w → pathOf t path < 8 → P (carried t path (planAt t m (pathOf t path) tag w))) where
+    abbrev Answered : Asked → Type 0
+    Answered a = P (answeredTo t m a)
+
+    asked : (a : Asked) → askedOf (readOf m) ≡ a → Answered a
     unfolding answeredTo planFor carriedOut acted
-    asked (Unread n) = stops n
-    asked (By path tag w) =
-        cond-ind (λ (pl : Plan). P (carried t path pl)) (ltb (pathOf t path) 8) (λ l. goes path tag w (ltb-true _ 8 l)) (λ _. stops Paper.unknownPath)
+    asked (Unread n) e = stops n
+    asked (By path tag w) e =
+        cond-ind (λ (pl : Plan). P (carried t path pl)) (ltb (pathOf t path) 8) (λ l. goes path tag w e (ltb-true _ 8 l)) (λ _. stops Paper.unknownPath)
 
     pub each-message : (n : ℕ) → P (messageOf t m n)
-    unfolding messageOf
-    each-message n = asked (heardOf (soundOf t) n m)
+    unfolding messageOf heardOf answeredTo
+    each-message n =
+        cond-ind Answered (not (soundOf t)) (λ _. stops _)
+        (λ _. cond-ind Answered (ltb n Paper.replyRoom) (λ _. stops _) (λ _. asked (askedOf (readOf m)) refl))
 
   pub each-start : (unit : ℕ)
       → (isAttached t unit ≡ true → anyLive t (runningOn unit) ≡ false → choiceOn t unit .found ≡ true

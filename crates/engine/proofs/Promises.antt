@@ -14,19 +14,19 @@ use Rattle.task.proofs.Promises.{determined}
 use Rattle.table.specs.Tables.{zeroTable}
 use Rattle.table.specs.Setup.{badList, setupTable}
 use Rattle.table.specs.declared.Table.{Table}
-use Rattle.engine.specs.Rules.{deciding}
-use Rattle.engine.specs.Management.{orderCode}
-use Rattle.engine.specs.Plans.{ruled, orderPlan, planOf}
+use Rattle.rules.specs.Rules.{deciding}
+use Rattle.rules.specs.Management.{orderCode}
+use Rattle.rules.specs.declared.rules.Facts.{Facts}
+use Rattle.rules.specs.declared.rules.Ruling.{Ruling}
+use Rattle.rules.specs.declared.rules.Ruling.the-variants.{Refuse, Respond, Report, Accept}
+use Rattle.plan.specs.Plans.{ruled, orderPlan, planOf}
+use Rattle.plan.specs.declared.What.{What}
+use Rattle.plan.specs.declared.What.the-variants.{Command, Manage}
+use Rattle.plan.specs.declared.Plan.{Plan}
+use Rattle.plan.specs.declared.Answer.{Answer}
+use Rattle.plan.specs.declared.Answer.the-variants as answer
 use Rattle.engine.specs.Calls.{planAt, acted, carriedOut, setupOf, replied, Answers}
 use Rattle.engine.specs.Promises.{AnswersUnique, OutcomeUnique, BlockUnique, MessageRefusals, FinishRefusals, StartRefusals, ResetRefusals, SetupRefusals}
-use Rattle.engine.specs.declared.rules.Facts.{Facts}
-use Rattle.engine.specs.declared.rules.Ruling.{Ruling}
-use Rattle.engine.specs.declared.rules.Ruling.the-variants.{Refuse, Respond, Report, Accept}
-use Rattle.engine.specs.declared.plan.What.{What}
-use Rattle.engine.specs.declared.plan.What.the-variants.{Command, Manage}
-use Rattle.engine.specs.declared.plan.Plan.{Plan}
-use Rattle.engine.specs.declared.Answer.{Answer}
-use Rattle.engine.specs.declared.Answer.the-variants as answer
 use Rattle.engine.specs.declared.Outcome.{Outcome}
 use Rattle.engine.proofs.Outcomes.{each-message, each-start, each-finish, each-reset}
 
@@ -78,7 +78,7 @@ buffered t defined buf o left n kept x e =
 pub message-refusals : MessageRefusals
 unfolding planAt
 message-refusals t m buf o left n =
-    buffered t _ buf o left n (each-message (Kept t) t (λ _ _ _. refl) m (λ path tag w _. plan-kept t _ _ _ tag m w) (length buf))
+    buffered t _ buf o left n (each-message (Kept t) t (λ _ _ _. refl) m (λ path tag w _ _. plan-kept t _ _ _ tag m w) (length buf))
 
 pub finish-refusals : FinishRefusals
 finish-refusals t arrival status s buf o left n =

@@ -19,17 +19,17 @@ use Rattle.table.specs.Tables.{pathOf, pathAt, unitAt, taskAt, isAttached, anyL
 use Rattle.table.specs.Setup.{badList, setupTable}
 use Rattle.table.specs.Sound.{soundOf}
 use Rattle.table.specs.declared.Table.{Table}
-use Rattle.engine.specs.Rules.{hasAca, factsOf}
-use Rattle.engine.specs.Plans.{askedOf, tagAsked, unitAsked, clearsSet, refusing, planOf, pathsAfter, unitsAfter}
-use Rattle.engine.specs.declared.plan.What.{What}
-use Rattle.engine.specs.declared.plan.Asked.{Asked}
-use Rattle.engine.specs.declared.plan.Asked.the-variants.{By, Unread}
-use Rattle.engine.specs.declared.plan.Change.{Change}
-use Rattle.engine.specs.declared.plan.Deed.{Deed}
-use Rattle.engine.specs.declared.plan.Deed.the-variants as deed
-use Rattle.engine.specs.declared.plan.Plan.{Plan}
-use Rattle.engine.specs.declared.Answer.{Answer}
-use Rattle.engine.specs.declared.Answer.the-variants as answer
+use Rattle.rules.specs.Rules.{hasAca, factsOf}
+use Rattle.plan.specs.Plans.{askedOf, tagAsked, unitAsked, clearsSet, refusing, planOf, pathsAfter, unitsAfter}
+use Rattle.plan.specs.declared.What.{What}
+use Rattle.plan.specs.declared.Asked.{Asked}
+use Rattle.plan.specs.declared.Asked.the-variants.{By, Unread}
+use Rattle.plan.specs.declared.Change.{Change}
+use Rattle.plan.specs.declared.Deed.{Deed}
+use Rattle.plan.specs.declared.Deed.the-variants as deed
+use Rattle.plan.specs.declared.Plan.{Plan}
+use Rattle.plan.specs.declared.Answer.{Answer}
+use Rattle.plan.specs.declared.Answer.the-variants as answer
 use Rattle.engine.specs.declared.Outcome.{Outcome}
 
 -- ---- an outcome: the table, the answer, and the id of the path that the reply goes to, 0 with no reply

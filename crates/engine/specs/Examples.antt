@@ -15,9 +15,9 @@ use Rattle.table.specs.declared.Table.{Table}
 use Rattle.table.specs.declared.Path as path
 use Rattle.table.specs.declared.Aca.the-variants.{Owned}
 use Rattle.table.specs.declared.Attention.the-variants as attention
+use Rattle.plan.specs.declared.Answer.{Answer}
+use Rattle.plan.specs.declared.Answer.the-variants.{Accepted, Response, Status, Started, Refused}
 use Rattle.engine.specs.Calls.{messageOf, startOf, finishOf, setupOf, replied}
-use Rattle.engine.specs.declared.Answer.{Answer}
-use Rattle.engine.specs.declared.Answer.the-variants.{Accepted, Response, Status, Started, Refused}
 use Rattle.engine.specs.declared.Outcome.{Outcome}
 
 abbrev pub listed : ℕ → path.Path

@@ -1,8 +1,4 @@
--- The definition of demand 2: a command's rules, management, the plan of an answer, and what each call answers, does to the table and leaves in the reply buffer.
-pub mod First
-pub mod Rules
-pub mod Management
-pub mod Plans
+-- The definition of demand 2, over the rules of `rules` and the plans of `plan`: what each call answers, does to the table and leaves in the reply buffer.
 pub mod Calls
 pub mod Promises
 pub mod Examples

@@ -16,9 +16,9 @@ use Rattle.table.specs.Setup.{badList}
 use Rattle.table.specs.View.{at}
 use Rattle.table.specs.Promises.{Good}
 use Rattle.table.specs.declared.Table.{Table}
+use Rattle.plan.specs.declared.Answer.{Answer}
+use Rattle.plan.specs.declared.Answer.the-variants as answer
 use Rattle.engine.specs.Calls.{messageOf, startOf, finishOf, totalResetOf, setupOf, replied, Answers, handedOver}
-use Rattle.engine.specs.declared.Answer.{Answer}
-use Rattle.engine.specs.declared.Answer.the-variants as answer
 use Rattle.engine.specs.declared.Outcome.{Outcome}
 
 -- ---- two outcomes that satisfy a call's contract are equal

@@ -6,12 +6,12 @@ ghost use Rattle.engine.specs.Calls.{replyPath, heardOf, planFor, carrie
 ghost use Rattle.wire.specs.Paper.{statusByte, sense};
 ghost use Rattle.table.specs.Tables.{anyLive, pickOf};
 ghost use Rattle.task.specs.Selections.{runningOn, runningAs};
-use crate::Answer;
 use crate::Outcome;
-use crate::plan::Asked;
-use crate::plan::Deed;
-use crate::plan::Plan;
-use crate::plan::What;
+use plan::Answer;
+use plan::Asked;
+use plan::Deed;
+use plan::Plan;
+use plan::What;
 use reply::Reply;
 use table::Table;
 use task::Kind;
@@ -67,7 +67,7 @@ fn heard(sound: bool, room: usize, m: &[u8]) -> Asked
     if room < REPLY_ROOM {
         return Asked::Unread(Refusal::SMALL_BUFFER);
     }
-    crate::plan::ask(wire::message::read(m))
+    plan::ask(wire::message::read(m))
 }
 
 // The plan for what was heard: refusal 3 for a path that is not listed, then by rules and orders.
@@ -76,17 +76,17 @@ fn plan_for(t: Table, m: &[u8], path: u32, tag: u16, w: What) -> Plan
 {
     let at = t.path_of(path);
     if at >= 8 {
-        return crate::plan::refuse(Refusal::UNKNOWN_PATH);
+        return plan::refuse(Refusal::UNKNOWN_PATH);
     }
     let p = at as u8;
-    let f = crate::rules::look(
+    let f = rules::rules::look(
         t,
         p,
-        crate::plan::tag_asked(tag, w),
-        crate::plan::unit_asked(w),
-        crate::plan::clears_set(w),
+        plan::tag_asked(tag, w),
+        plan::unit_asked(w),
+        plan::clears_set(w),
     );
-    crate::plan::find_plan(f, t.next, p, tag, m, w)
+    plan::find_plan(f, t.next, p, tag, m, w)
 }
 
 // The reply that an answer asks for.
@@ -115,10 +115,10 @@ fn carry_out(mut t: Table, plan: Plan) -> Table
     let change = plan.change;
     let deed = plan.deed;
     let paths = t.paths;
-    let after = crate::plan::change_paths(paths, t.count, change);
+    let after = plan::change_paths(paths, t.count, change);
     t.paths = after;
     let units = t.units;
-    let free = crate::plan::change_units(units, change);
+    let free = plan::change_units(units, change);
     t.units = free;
     match deed {
         Deed::Nothing => t,
@@ -163,7 +163,7 @@ fn choose(t: Table, unit: u8) -> Pick
     };
     let u = t.unit_at(unit);
     let aca = u.aca;
-    if crate::rules::has_aca(aca) {
+    if rules::rules::has_aca(aca) {
         return t.pick(Selection {
             sort: Sort::Just(Kind::Aca),
             ..waiting

@@ -380,7 +380,7 @@ module _ (ids : List ℕ) where
   length-paths h =
       omega (arith, length-append (freshPaths ids) (replicate (8 - length ids) noPath), length-fresh ids, length-replicate (8 - length ids) noPath)
 
-  listed-at : (p : ℕ) → p < length ids → getD (pathsOf ids) p noPath ≡ freshPath (getD ids p 0)
+  pub listed-at : (p : ℕ) → p < length ids → getD (pathsOf ids) p noPath ≡ freshPath (getD ids p 0)
   unfolding pathsOf
   listed-at p l = List·getD-append (freshPaths ids) (replicate (8 - length ids) noPath) noPath p (rw (length-fresh ids) l) ∙ fresh-at ids p l
 

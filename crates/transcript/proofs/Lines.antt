@@ -13,8 +13,8 @@ use native.Mathlib.Omega.{arith}
 use borrow.Author.Tests.{lt-ltb, le-ltb}
 use Rattle.wire.specs.declared.codes.StatusByte.{StatusByte}
 use Rattle.wire.specs.declared.codes.Sense.{Sense}
-use Rattle.engine.specs.declared.Answer.{Answer}
-use Rattle.engine.specs.declared.Answer.the-variants.{Status}
+use Rattle.plan.specs.declared.Answer.{Answer}
+use Rattle.plan.specs.declared.Answer.the-variants.{Status}
 use Rattle.transcript.specs.Lines
 use Rattle.transcript.specs.Lines.{pushed, pushAll, decimalIn, decimalOf, answerText, handedOf, handedIn, Handed}
 use Rattle.transcript.specs.declared.line.Line.{Line}

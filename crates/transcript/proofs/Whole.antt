@@ -12,8 +12,8 @@ use native.Mathlib.Omega.{arith}
 use borrow.Author.Tests.{lt-ltb}
 use Rattle.task.specs.Map.{liveCount}
 use Rattle.wire.proofs.Table.{cond-ind}
-use Rattle.engine.specs.declared.Answer.{Answer}
-use Rattle.engine.specs.declared.Answer.the-variants.{Ready, Accepted, Response, Status, Started, Reset, Refused}
+use Rattle.plan.specs.declared.Answer.{Answer}
+use Rattle.plan.specs.declared.Answer.the-variants.{Ready, Accepted, Response, Status, Started, Reset, Refused}
 use Rattle.transcript.specs.Lines.{pushed, pushAll, decimalIn, answerText, lineOf, endOk, endBad, endRefused}
 use Rattle.transcript.specs.Playing.{lastText}
 use Rattle.transcript.specs.Promises.{Whole}

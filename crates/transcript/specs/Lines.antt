@@ -6,8 +6,8 @@ use mathlib.Core.Bool.{cond, _||_}
 use lib.ListN.{length, set, replicate, take, drop}
 use lib.Dec.{ltb}
 use Rattle.wire.specs.declared.codes.Sense.{Sense}
-use Rattle.engine.specs.declared.Answer.{Answer}
-use Rattle.engine.specs.declared.Answer.the-variants.{Ready, Accepted, Response, Status, Started, Reset, Refused}
+use Rattle.plan.specs.declared.Answer.{Answer}
+use Rattle.plan.specs.declared.Answer.the-variants.{Ready, Accepted, Response, Status, Started, Reset, Refused}
 use Rattle.transcript.specs.declared.line.Line.{Line}
 
 -- ---- words, in ASCII

@@ -8,9 +8,9 @@ use lib.Dec.{ltb, leb, eqb}
 use Rattle.task.specs.Map.{liveCount}
 use Rattle.table.specs.Tables.{zeroTable}
 use Rattle.table.specs.declared.Table.{Table}
+use Rattle.plan.specs.declared.Answer.{Answer}
+use Rattle.plan.specs.declared.Answer.the-variants as answer
 use Rattle.engine.specs.Calls.{setupOf}
-use Rattle.engine.specs.declared.Answer.{Answer}
-use Rattle.engine.specs.declared.Answer.the-variants as answer
 use Rattle.engine.specs.declared.Outcome.{Outcome}
 use Rattle.transcript.specs.Reading.{headerOf}
 use Rattle.transcript.specs.Events.{eventAt}

@@ -5,7 +5,7 @@ use mathlib.Core.List.{List, _++_}
 use lib.ListN.{length, getD, take, drop}
 use Rattle.task.specs.Promises.{One}
 use Rattle.table.specs.declared.Table.{Table}
-use Rattle.engine.specs.declared.Answer.{Answer}
+use Rattle.plan.specs.declared.Answer.{Answer}
 use Rattle.transcript.specs.Numbers.{numberAt, byteAt, groupsOf}
 use Rattle.transcript.specs.Events.{eventAt}
 use Rattle.transcript.specs.Reading.{headerOf}

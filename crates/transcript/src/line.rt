@@ -4,7 +4,7 @@ ghost use Prim.Native.Nat.{_%_};
 ghost use mathlib.Core.List.{_++_};
 ghost use Rattle.transcript.specs.Lines;
 ghost use Rattle.transcript.specs.Lines.{emptyLine, pushed, pushAll, decimalOf, digitOf, hexOf, hexWord, senseText, answerText, lineOf, endOk, endBad, endRefused, Handed};
-use engine::Answer;
+use plan::Answer;
 use wire::codes::Sense;
 
 pub struct Line {

@@ -7,8 +7,8 @@ use crate::event::Event;
 use crate::event::Next;
 use crate::line::LINE_ROOM;
 use crate::line::Line;
-use engine::Answer;
 use engine::Outcome;
+use plan::Answer;
 use table::Table;
 
 // Where a player stands: in an input that goes on, at its end, at something malformed, or at a refused setup.

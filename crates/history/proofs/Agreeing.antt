@@ -1,0 +1,228 @@
+-- A ledger and a table that are tied agree, as demand 3 asks. Assumes nothing.
+use Prim.Native.Nat.{ℕ, suc, _+_, _-_, _<_, _≤_}
+use mathlib.Core.Path.{_≡_, refl, sym, ap, ap₂, _∙_}
+use mathlib.Core.Bool.{Bool, true, false, cond, _&&_, _||_}
+use mathlib.Core.List.{List, [], _∷_}
+use mathlib.Core.Logic.{inl, inr}
+use mathlib.Core.Option.{some}
+use native.Mathlib.Omega.{arith}
+use lib.ListN.{length}
+use lib.Dec.{eqb}
+use borrow.Author.Tests.{eq-eqb, eqb-true}
+use Rattle.task.specs.Index.{one}
+use Rattle.task.specs.Tasks.{kindNumber, phaseNumber}
+use Rattle.task.specs.Selections.{picks}
+use Rattle.task.specs.declared.Kind.{Kind}
+use Rattle.task.specs.declared.Kind.the-variants as kind
+use Rattle.task.specs.declared.Phase.{Phase}
+use Rattle.task.specs.declared.Phase.the-variants as phase
+use Rattle.task.specs.declared.Task.{Task}
+use Rattle.task.proofs.Ways.{both, cond-ind}
+use Rattle.task.proofs.Places.{lt-or-le}
+use Rattle.table.specs.declared.Table.{Table}
+use Rattle.table.proofs.Weights.{ones-are-live}
+use Rattle.history.specs.Trace.{Told, nth, Label, byStatus, byTotalReset, byOrder, resets, isStatus, isManagement, isReset, Effect, Nothing, Accepts, Starts, Ends, did}
+use Rattle.history.specs.Ledger.{Ending, Entry, isEmpty, isOpen, newEntry, running, marked, noted, ledgerFrom, ledger, total, countOf, isFrom, acceptsFrom, acceptedFrom}
+use Rattle.history.specs.Demand.{accountedFor, Agrees}
+use Rattle.history.proofs.Totals.{total-ext, total-le, total-add, total-append, total-map, total-at, total-two, total-find, weight-at, weight-find}
+use Rattle.history.proofs.Traces.{came-in, caused-in, entered-in}
+use Rattle.history.proofs.Kept.{Tied, openWeight, hasNumber, extra}
+
+-- ---- two tasks, field by field
+
+kindFrom : ℕ → Kind
+kindFrom n = cond (eqb n 0) kind.Aca (cond (eqb n 1) kind.Head (cond (eqb n 2) kind.Ordered kind.Simple))
+
+kind-back : (k : Kind) → kindFrom (kindNumber k) ≡ k
+unfolding kindFrom
+kind-back kind.Aca = refl
+kind-back kind.Head = refl
+kind-back kind.Ordered = refl
+kind-back kind.Simple = refl
+
+phaseFrom : ℕ → Phase
+phaseFrom n = cond (eqb n 0) phase.Waiting phase.Running
+
+phase-back : (p : Phase) → phaseFrom (phaseNumber p) ≡ p
+unfolding phaseFrom
+phase-back phase.Waiting = refl
+phase-back phase.Running = refl
+
+abbrev sameTask : Task → Task → Bool
+sameTask a b =
+    eqb (a .arrival) (b .arrival) && (eqb (a .tag) (b .tag) && (eqb (a .path) (b .path) && (eqb (a .unit) (b .unit)
+    && (eqb (kindNumber (a .kind)) (kindNumber (b .kind)) && eqb (phaseNumber (a .phase)) (phaseNumber (b .phase))))))
+
+same-eq : (a b : Task) → sameTask a b ≡ true → a ≡ b
+same-eq a b e =
+    let q = both (eqb (a .arrival) (b .arrival)) _ e in
+    let r = both (eqb (a .tag) (b .tag)) _ (q .1) in
+    let s = both (eqb (a .path) (b .path)) _ (r .1) in
+    let u = both (eqb (a .unit) (b .unit)) _ (s .1) in
+    let v = both (eqb (kindNumber (a .kind)) (kindNumber (b .kind))) _ (u .1) in
+    let k : a .kind ≡ b .kind = sym (kind-back (a .kind)) ∙ ap kindFrom (eqb-true _ _ (v .0)) ∙ kind-back (b .kind) in
+    let p : a .phase ≡ b .phase = sym (phase-back (a .phase)) ∙ ap phaseFrom (eqb-true _ _ (v .1)) ∙ phase-back (b .phase) in
+    let arrival : a .arrival ≡ b .arrival = eqb-true _ _ (q .0) in
+    let tag : a .tag ≡ b .tag = eqb-true _ _ (r .0) in
+    let path : a .path ≡ b .path = eqb-true _ _ (s .0) in
+    let unit : a .unit ≡ b .unit = eqb-true _ _ (u .0) in
+    λ i. record { arrival = arrival i; tag = tag i; path = path i; unit = unit i; kind = k i; phase = p i }
+
+same-refl : (a : Task) → sameTask a a ≡ true
+same-refl a =
+    rw (
+      eq-eqb (a .arrival) (a .arrival) refl,
+      eq-eqb (a .tag) (a .tag) refl,
+      eq-eqb (a .path) (a .path) refl,
+      eq-eqb (a .unit) (a .unit) refl,
+      eq-eqb (kindNumber (a .kind)) (kindNumber (a .kind)) refl,
+      eq-eqb (phaseNumber (a .phase)) (phaseNumber (a .phase)) refl,
+    )
+    refl
+
+one-true : (b : Bool) → 1 ≤ one b → b ≡ true
+one-true true h = refl
+one-true false h = absurd (omega arith)
+
+open-true : (o b : Bool) → 1 ≤ cond o (one b) 0 → (o ≡ true) × (b ≡ true)
+open-true true b h = (refl, one-true b h)
+open-true false b h = absurd (omega arith)
+
+open-one : (o : Bool) → cond o 1 0 ≡ one o
+open-one true = refl
+open-one false = refl
+
+-- ---- the commands of a path: as many entries as the trace accepts
+
+kept-path : (n p : ℕ) (e : Entry) → isFrom p (running n e .task) ≡ isFrom p (e .task)
+unfolding running
+kept-path n p e = cond-ind (λ (x : Entry). isFrom p (x .task) ≡ isFrom p (e .task)) (isOpen e && eqb (e .task .arrival) n) (λ _. refl) (λ _. refl)
+
+noted-path : (n p : ℕ) (effect : Effect) (l : List Entry)
+    → countOf (λ e. isFrom p (e .task)) (noted n effect l) ≡ countOf (λ e. isFrom p (e .task)) l + one (acceptsFrom p effect)
+unfolding marked
+noted-path n p Nothing l = omega arith
+noted-path n p (Accepts a) l = total-append (λ e. one (isFrom p (e .task))) l (newEntry n a)
+noted-path n p (Starts arrival) l =
+    omega (arith, total-map (λ e. one (isFrom p (e .task))) (running arrival) l, total-ext (λ e. one (isFrom p (running arrival e .task))) (λ e. one (isFrom p (e .task))) (λ e. ap one (kept-path arrival p e)) l)
+noted-path n p (Ends s how) l =
+    omega (
+      arith,
+      total-map (λ e. one (isFrom p (e .task))) (marked n s how) l,
+      total-ext (λ e. one (isFrom p (marked n s how e .task))) (λ e. one (isFrom p (e .task))) (λ e. ap one (stays e)) l,
+    )
+  where
+    stays : (e : Entry) → isFrom p (marked n s how e .task) ≡ isFrom p (e .task)
+    stays e = cond-ind (λ (x : Entry). isFrom p (x .task) ≡ isFrom p (e .task)) (picks s (e .task) && (isOpen e || isStatus how)) (λ _. refl) (λ _. refl)
+
+entries : (ids : List ℕ) (p n : ℕ) (l : List Entry) (h : List Told)
+    → countOf (λ e. isFrom p (e .task)) (ledgerFrom ids n l h) ≡ countOf (λ e. isFrom p (e .task)) l + acceptedFrom ids p h
+unfolding ledgerFrom total
+entries ids p n l [] = omega arith
+entries ids p n l (x ∷ h) =
+    let effect : Effect = did ids x in
+    omega (arith, entries ids p (suc n) (noted n effect l) h, noted-path n p effect l)
+
+-- ---- the endings of an entry by their sort
+
+one-sort : (w : Label) → one (isStatus w) + one (isManagement w) + one (isReset w) ≡ 1
+one-sort byStatus = refl
+one-sort byTotalReset = refl
+one-sort (byOrder o) = cases (resets o)
+  where
+    cases : (b : Bool) → one false + one (cond b false true) + one b ≡ 1
+    cases true = refl
+    cases false = refl
+
+abbrev of : (Label → Bool) → List Ending → ℕ
+of sort l = countOf (λ x. sort (x .how)) l
+
+sorts : (l : List Ending) → length l ≡ of isStatus l + of isManagement l + of isReset l
+unfolding total
+sorts [] = refl
+sorts (x ∷ l) = omega (arith, one-sort (x .how), sorts l)
+
+-- an entry of the path is open, or has as many endings as one and those beyond the first
+entry-balance : (b : Bool) (l : List Ending)
+    → one b + cond b (length l - 1) 0
+    ≡ cond b (of isStatus l) 0 + cond b (of isManagement l) 0 + cond b (of isReset l) 0 + cond (isEmpty l) (one b) 0
+unfolding total
+entry-balance true [] = refl
+entry-balance false [] = refl
+entry-balance true (x ∷ l) = omega (arith, sorts (x ∷ l))
+entry-balance false (x ∷ l) = refl
+
+cond-le : (b : Bool) (n : ℕ) → cond b n 0 ≤ n
+cond-le true n = omega arith
+cond-le false n = omega arith
+
+module _ (ids : List ℕ) (h : List Told) (t : Table) (T : Tied ids (ledger ids h) t) where
+  abbrev l : List Entry
+  l = ledger ids h
+
+  balanced : (p : ℕ) → acceptedFrom ids p h ≡ accountedFor p l t
+  unfolding total
+  balanced p =
+      let from : Entry → Bool = λ e. isFrom p (e .task) in
+      let ended : (Label → Bool) → Entry → ℕ = λ sort e. cond (from e) (of sort (e .endings)) 0 in
+      let opens : Entry → ℕ = openWeight (λ a. one (isFrom p a)) in
+      let more : Entry → ℕ = λ e. cond (from e) (extra e) 0 in
+      omega (
+        arith,
+        entries ids p 1 [] h,
+        total-ext (λ e. one (from e) + more e) (λ e. ended isStatus e + ended isManagement e + ended isReset e + opens e) (λ e. entry-balance (from e) (e .endings)) l,
+        total-add (λ e. one (from e)) more l,
+        total-le more extra (λ e. cond-le (from e) (extra e)) l,
+        total-add (λ e. ended isStatus e + ended isManagement e + ended isReset e) opens l,
+        total-add (λ e. ended isStatus e + ended isManagement e) (ended isReset) l,
+        total-add (ended isStatus) (ended isManagement) l,
+        T .single,
+        T .same (λ a. one (isFrom p a)),
+      )
+
+  apart : (k j : ℕ) (e f : Entry) → nth l k ≡ some e → nth l j ≡ some f → e .task .arrival ≡ f .task .arrival → k < j → ⊥
+  apart k j e f en fn q below =
+      let n : ℕ = f .task .arrival in
+      omega (
+        arith,
+        total-two (λ e. one (hasNumber n e)) l k j e f below en fn,
+        ap one (eq-eqb (e .task .arrival) n q),
+        ap one (eq-eqb (f .task .arrival) n refl),
+        T .given n,
+      )
+
+  pub agrees : Agrees ids h t
+  agrees = record {
+    held =
+        λ k e en o.
+        let f : Task → ℕ = λ b. one (sameTask (e .task) b) in
+        let r =
+        weight-find f t
+        (omega (
+          arith,
+          total-at (openWeight f) l k e en,
+          T .same f,
+          ap₂ (λ (b c : Bool). cond b (one c) 0) o (same-refl (e .task)),
+        )) in
+        (r .0, r .2, r .3 ∙ ap some (sym (same-eq (e .task) (r .1) (one-true _ (r .4)))));
+    no-other =
+        λ i a below here.
+        let f : Task → ℕ = λ b. one (sameTask b a) in
+        let r = total-find (openWeight f) l (omega (arith, weight-at f t i a below here, T .same f, ap one (same-refl a))) in
+        let o = open-true (isOpen (r .1)) (sameTask (r .1 .task) a) (r .3) in
+        (r .0, r .1, r .2, o .0, same-eq (r .1 .task) a (o .1));
+    one-record = T .good .sound .one-arrival;
+    one-entry =
+        λ k j e f en fn q.
+        elim (lt-or-le k j) [
+          | inl below ↦ absurd (apart k j e f en fn q below)
+          | inr past ↦ elim (lt-or-le j k) [ inl below ↦ absurd (apart j k f e fn en (sym q) below) | inr under ↦ omega arith ]
+        ];
+    live-count =
+        ones-are-live t (T .good .shaped) ∙ sym (T .same (λ a. 1)) ∙ total-ext (openWeight (λ a. 1)) (λ e. one (isOpen e)) (λ e. open-one (isOpen e)) l;
+    once = λ k e en. omega (arith, total-at extra l k e en, T .single);
+    came = came-in ids h;
+    caused = caused-in ids h;
+    entered = entered-in ids h;
+    balance = balanced;
+  }

@@ -1,0 +1,12 @@
+-- The theorem of demand 3, whose commands a message ends, and the drives that break the demand; then what these stand on.
+pub mod Demand
+pub mod Traces
+pub mod Others
+pub mod Drives
+pub mod TwoHosts
+mod Nth
+mod Totals
+mod Kept
+mod Calls
+mod Agreeing
+mod Computing

@@ -1,0 +1,273 @@
+-- What holds of the ledger of any trace, with no table and no contract: each entry and each ending has its event, each accepted command has its entry,
+-- and whose commands a message ends. Assumes nothing.
+use Prim.Native.Nat.{ℕ, zero, suc, _+_, _<_}
+use mathlib.Core.Path.{_≡_, refl, sym, ap, subst, _∙_}
+use mathlib.Core.Bool.{true, false, _&&_, _||_}
+use mathlib.Core.List.{List, [], _∷_, map}
+use mathlib.Core.Option.{some, Option·none-ne-some}
+use mathlib.Core.Logic.{inl, inr}
+use native.Mathlib.Nat.{add-zero, zero-add, add-suc, suc-add}
+use native.Mathlib.Omega.{arith}
+use lib.Dec.{eqb}
+use lib.ListN.{length}
+use borrow.Author.Tests.{eqb-true}
+use Rattle.wire.specs.Paper
+use Rattle.wire.specs.Messages.{readOf}
+use Rattle.wire.specs.declared.codes.Refusal.{Refusal}
+use Rattle.wire.specs.declared.codes.ReturnCode.{ReturnCode}
+use Rattle.wire.specs.declared.codes.StatusByte.{StatusByte}
+use Rattle.wire.specs.declared.codes.Sense.{Sense}
+use Rattle.task.specs.Selections.{picks}
+use Rattle.task.specs.declared.Kind.{Kind}
+use Rattle.task.specs.declared.Phase.the-variants.{Waiting}
+use Rattle.task.specs.declared.Task.{Task}
+use Rattle.task.specs.declared.select.Selection.{Selection}
+use Rattle.task.proofs.Ways.{never, cond-ind, both}
+use Rattle.task.proofs.Places.{below-suc}
+use Rattle.task.proofs.Selecting.{meets}
+use Rattle.rules.specs.Management.{endsOf}
+use Rattle.plan.specs.Plans.{askedOf, kindOf}
+use Rattle.rules.specs.declared.manage.Order.{Order}
+use Rattle.rules.specs.declared.manage.Order.the-variants.{AbortTask, AbortTaskSet, ClearTaskSet, ClearAca, UnitReset, TargetReset}
+use Rattle.plan.specs.declared.What.{What}
+use Rattle.plan.specs.declared.What.the-variants.{Command, Manage}
+use Rattle.plan.specs.declared.Asked.{Asked}
+use Rattle.plan.specs.declared.Asked.the-variants.{By, Unread}
+use Rattle.plan.specs.declared.Answer.{Answer}
+use Rattle.plan.specs.declared.Answer.the-variants as answer
+use Rattle.history.specs.Trace.{Event, Message, Start, Finish, TotalReset, Told, nth, eventAt, Label, byOrder, isStatus, Effect, Nothing, Accepts, Starts, Ends, placeIn, commandEffect, orderEffect, messageEffect, startEffect, finishEffect, resetEffect, effectOf, did}
+use Rattle.history.specs.Ledger.{Ending, Entry, isEmpty, isOpen, newEntry, running, marked, noted, ledgerFrom, ledger, Has}
+use Rattle.history.specs.Demand.{Entered, waiting, Came, Caused, reachesOthers, mayReachOthers, EndsItsOwn}
+use Rattle.history.proofs.Nth.{Each, same-element, nth-below, nth-append, nth-last, nth-map, each-none, each-last, each-map}
+
+-- ---- what an event can do, by its answer
+
+-- a fact about every answer, from each sort of answer
+each-answer : (P : Answer → Type 0) → P answer.Ready → ((n : ℕ) → P (answer.Accepted n)) → ((t : ℕ) (code : ReturnCode) → P (answer.Response t code))
+    → ((t : ℕ) (status : StatusByte) (sense : Sense) → P (answer.Status t status sense)) → ((n : ℕ) → P (answer.Started n)) → P answer.Reset
+    → ((n : Refusal) → P (answer.Refused n)) → (a : Answer) → P a
+each-answer P ready accepted response status started reset refused answer.Ready = ready
+each-answer P ready accepted response status started reset refused (answer.Accepted n) = accepted n
+each-answer P ready accepted response status started reset refused (answer.Response t code) = response t code
+each-answer P ready accepted response status started reset refused (answer.Status t s sense) = status t s sense
+each-answer P ready accepted response status started reset refused (answer.Started n) = started n
+each-answer P ready accepted response status started reset refused answer.Reset = reset
+each-answer P ready accepted response status started reset refused (answer.Refused n) = refused n
+
+module _ (P : Effect → Type 0) (nothing : P Nothing) where
+  -- a command is accepted, and then waits
+  command-can : (p tag lun : ℕ) (kind : Kind)
+      → ((n : ℕ) → P (Accepts (record { arrival = n; tag = tag; path = p; unit = lun; kind = kind; phase = Waiting })))
+      → (a : Answer) → P (commandEffect p tag lun kind a)
+  command-can p tag lun kind accepts =
+      each-answer (λ a. P (commandEffect p tag lun kind a)) nothing accepts (λ _ _. nothing) (λ _ _ _. nothing) (λ _. nothing) nothing (λ _. nothing)
+
+  -- an order ends what it selects
+  order-can : (p : ℕ) (o : Order) → P (Ends (endsOf p o) (byOrder o)) → (a : Answer) → P (orderEffect p o a)
+  order-can p o ends =
+      each-answer (λ a. P (orderEffect p o a)) nothing (λ _. nothing)
+      (λ t code. cond-ind P (eqb (code .0) (Paper.done .0)) (λ _. ends) (λ _. nothing))
+      (λ _ _ _. nothing) (λ _. nothing) nothing (λ _. nothing)
+
+-- what it accepts waits
+abbrev AcceptsWaiting : Effect → Type 0
+AcceptsWaiting Nothing = Unit {0}
+AcceptsWaiting (Accepts a) = waiting a ≡ a
+AcceptsWaiting (Starts arrival) = Unit {0}
+AcceptsWaiting (Ends s how) = Unit {0}
+
+message-waiting : (ids : List ℕ) (q : Asked) (a : Answer) → AcceptsWaiting (messageEffect ids q a)
+message-waiting ids (Unread n) a = tt
+message-waiting ids (By path tag (Command lun flags)) a = command-can AcceptsWaiting tt (placeIn ids path) tag lun (kindOf (flags .queue)) (λ _. refl) a
+message-waiting ids (By path tag (Manage o)) a = order-can AcceptsWaiting tt (placeIn ids path) o tt a
+
+event-waiting : (ids : List ℕ) (ev : Event) (a : Answer) → AcceptsWaiting (effectOf ids ev a)
+event-waiting ids (Message m buf) a = message-waiting ids (askedOf (readOf m)) a
+event-waiting ids (Start unit) a =
+    each-answer (λ a. AcceptsWaiting (startEffect a)) tt (λ _. tt) (λ _ _. tt) (λ _ _ _. tt) (λ _. tt) tt (λ _. tt) a
+event-waiting ids (Finish arrival status sense buf) a =
+    each-answer (λ a. AcceptsWaiting (finishEffect arrival a)) tt (λ _. tt) (λ _ _. tt) (λ _ _ _. tt) (λ _. tt) tt (λ _. tt) a
+event-waiting ids TotalReset a =
+    each-answer (λ a. AcceptsWaiting (resetEffect a)) tt (λ _. tt) (λ _ _. tt) (λ _ _ _. tt) (λ _. tt) tt (λ _. tt) a
+
+accepts-waiting : (ids : List ℕ) (x : Told) (a : Task) → did ids x ≡ Accepts a → waiting a ≡ a
+accepts-waiting ids x a f = subst AcceptsWaiting f (event-waiting ids (x .event) (x .answer))
+
+-- ---- what an event leaves of an entry: the command but for its phase, and its acceptance
+
+abbrev SameCommand : Entry → Entry → Type 0
+SameCommand e d = (d .accepted ≡ e .accepted) × (waiting (d .task) ≡ waiting (e .task))
+
+running-same : (arrival : ℕ) (e : Entry) → SameCommand e (running arrival e)
+unfolding running
+running-same arrival e = cond-ind (SameCommand e) (isOpen e && eqb (e .task .arrival) arrival) (λ _. (refl, refl)) (λ _. (refl, refl))
+
+marked-same : (n : ℕ) (s : Selection) (how : Label) (e : Entry) → SameCommand e (marked n s how e)
+unfolding marked
+marked-same n s how e = cond-ind (SameCommand e) (picks s (e .task) && (isOpen e || isStatus how)) (λ _. (refl, refl)) (λ _. (refl, refl))
+
+-- ---- event by event: what holds before the first event, and is kept by each, holds at the end of the trace
+
+module _ (ids : List ℕ) (h : List Told) where
+  abbrev pub KeptByEvents : (ℕ → List Entry → Type 0) → Type 0
+  KeptByEvents P = (n : ℕ) (x : Told) (l : List Entry) → eventAt h n ≡ some x → P n l → P (suc n) (noted n (did ids x) l)
+
+  -- rest is what the trace has from event n on
+  along : (P : ℕ → List Entry → Type 0) → KeptByEvents P → (rest : List Told) (n : ℕ) (l : List Entry) → ((k : ℕ) → eventAt h (n + k) ≡ nth rest k)
+      → P n l → P (n + length rest) (ledgerFrom ids n l rest)
+  unfolding nth ledgerFrom
+  along P kept [] n l there p = rw add-zero p
+  along P kept (x ∷ rest) n l there p =
+      rw (add-suc, ← suc-add)
+      (along P kept rest (suc n) (noted n (did ids x) l) (λ k. rw (suc-add, ← add-suc) (there (suc k)))
+      (kept n x l (rw add-zero at (there zero)) p))
+
+  pub by-events : (P : ℕ → List Entry → Type 0) → KeptByEvents P → P 1 [] → P (1 + length h) (ledger ids h)
+  unfolding eventAt
+  by-events P kept p = along P kept h 1 [] (λ k. rw (suc-add zero k, zero-add)) p
+
+  -- ---- each entry and each ending has its event
+
+  abbrev EachCaused : Entry → Type 0
+  EachCaused e = Each (Caused ids h e) (e .endings)
+
+  -- as it is before event n
+  record Known (n : ℕ) (e : Entry) : Type 0 where
+    before : e .accepted < n
+    came : Came ids h e
+    caused : EachCaused e
+
+  known-change : {n : ℕ} {e d : Entry} → SameCommand e d → EachCaused d → Known n e → Known (suc n) d
+  known-change same caused w = record {
+    before = omega arith;
+    came = record { cause = w .came .cause; there = ap (eventAt h) (same .0) ∙ w .came .there; effect = w .came .effect ∙ ap Accepts (sym (same .1)) };
+    caused = caused;
+  }
+
+  known-later : {n : ℕ} {e : Entry} → Known n e → Known (suc n) e
+  known-later w = known-change (refl, refl) (w .caused) w
+
+  -- an entry runs only while it has no ending
+  known-running : (n arrival : ℕ) (e : Entry) → Known n e → Known (suc n) (running arrival e)
+  unfolding running
+  known-running n arrival e w =
+      known-change (running-same arrival e)
+      (cond-ind EachCaused (isOpen e && eqb (e .task .arrival) arrival) (λ t. each-empty (e .endings) _ (both _ _ t .0)) (λ _. w .caused)) w
+    where
+      each-empty : (l : List Ending) (P : Ending → Type 0) → isEmpty l ≡ true → Each P l
+      each-empty [] P o = each-none P
+      each-empty (x ∷ l) P o = absurd (never o refl)
+
+  module _ (n : ℕ) (x : Told) (there : eventAt h n ≡ some x) where
+    -- one ending more, by event n
+    known-marked : (s : Selection) (how : Label) → did ids x ≡ Ends s how → (e : Entry) → Known n e → Known (suc n) (marked n s how e)
+    unfolding marked
+    known-marked s how f e w =
+        known-change (marked-same n s how e)
+        (cond-ind EachCaused (picks s (e .task) && (isOpen e || isStatus how))
+        (λ t.
+        each-last _ (e .endings) _
+        (λ k y g.
+        let c = w .caused k y g in
+        record { after = c .after; cause = c .cause; there = c .there; selection = c .selection; effect = c .effect; picked = c .picked })
+        (record { after = w .before; cause = x; there = there; selection = s; effect = f; picked = both _ _ t .0 }))
+        (λ _. w .caused)) w
+
+    known-noted : (f : Effect) → did ids x ≡ f → (l : List Entry) → Each (Known n) l → Each (Known (suc n)) (noted n f l)
+    known-noted Nothing f l w = λ k e g. known-later (w k e g)
+    known-noted (Accepts a) f l w =
+        each-last (Known (suc n)) l (newEntry n a) (λ k e g. known-later (w k e g))
+        (record {
+          before = omega arith;
+          came = record { cause = x; there = there; effect = f ∙ ap Accepts (sym (accepts-waiting ids x a f)) };
+          caused = each-none (Caused ids h (newEntry n a));
+        })
+    known-noted (Starts arrival) f l w = each-map (Known n) (Known (suc n)) (running arrival) (known-running n arrival) l w
+    known-noted (Ends s how) f l w = each-map (Known n) (Known (suc n)) (marked n s how) (known-marked s how f) l w
+
+  known : Each (Known (1 + length h)) (ledger ids h)
+  known = by-events (λ n l. Each (Known n) l) (λ n x l there w. known-noted n x there (did ids x) refl l w) (each-none (Known 1))
+
+  pub came-in : (k : ℕ) (e : Entry) → Entered ids h k e → Came ids h e
+  came-in k e g = known k e g .came
+
+  pub caused-in : (k : ℕ) (e : Entry) (x : Ending) → Entered ids h k e → Has x (e .endings) → Caused ids h e x
+  caused-in k e x g m = known k e g .caused (m .0) x (m .1)
+
+-- ---- each accepted command has its entry
+
+-- the ledger l has an entry for the command a, which event m accepted
+abbrev EntryOf : ℕ → Task → List Entry → Type 0
+EntryOf m a l = (k : ℕ) × (e : Entry) × (nth l k ≡ some e) × (e .accepted ≡ m) × (waiting (e .task) ≡ a)
+
+module _ (m : ℕ) (a : Task) (l : List Entry) (r : EntryOf m a l) where
+  entry-change : (change : Entry → Entry) → ((e : Entry) → SameCommand e (change e)) → EntryOf m a (map change l)
+  entry-change change same = (r .0, change (r .1), nth-map change l (r .0) (r .2), same (r .1) .0 ∙ r .3, same (r .1) .1 ∙ r .4)
+
+  entry-stays : (n : ℕ) (f : Effect) → EntryOf m a (noted n f l)
+  entry-stays n Nothing = r
+  entry-stays n (Accepts b) = (r .0, r .1, nth-append l (newEntry n b ∷ []) (r .0) (r .2), r .3, r .4)
+  entry-stays n (Starts arrival) = entry-change (running arrival) (running-same arrival)
+  entry-stays n (Ends s how) = entry-change (marked n s how) (marked-same n s how)
+
+entry-new : (n : ℕ) (a : Task) (l : List Entry) (f : Effect) → f ≡ Accepts a → waiting a ≡ a → EntryOf n a (noted n f l)
+entry-new n a l f e waits =
+    subst (λ (f : Effect). EntryOf n a (noted n f l)) (sym e) (length l, newEntry n a, nth-last l (newEntry n a), refl, waits)
+
+module _ (ids : List ℕ) (h : List Told) where
+  -- each event before n has entered what it accepted
+  abbrev EnteredBefore : ℕ → List Entry → Type 0
+  EnteredBefore n l = (m : ℕ) (x : Told) (a : Task) → m < n → eventAt h m ≡ some x → did ids x ≡ Accepts a → EntryOf m a l
+
+  none-before : EnteredBefore 1 []
+  unfolding eventAt
+  none-before zero x a b there f = absurd (Option·none-ne-some x there)
+  none-before (suc m) x a b there f = absurd (omega arith)
+
+  entered-kept : KeptByEvents ids h EnteredBefore
+  entered-kept n x l here r m y a b there f = elim (below-suc b) [
+    | inl same ↦ let one : y ≡ x = cc in rw same (entry-new n a l (did ids x) (rw one at f) (accepts-waiting ids y a f))
+    | inr c ↦ entry-stays m a l (r m y a c there f) n (did ids x)
+  ]
+
+  event-below : (n : ℕ) (x : Told) → eventAt h n ≡ some x → n < 1 + length h
+  unfolding eventAt
+  event-below zero x there = omega arith
+  event-below (suc n) x there = omega (arith, nth-below h n there)
+
+  pub entered-in : (n : ℕ) (x : Told) (a : Task) → eventAt h n ≡ some x → did ids x ≡ Accepts a
+      → (k : ℕ) × (e : Entry) × Entered ids h k e × (e .accepted ≡ n) × (waiting (e .task) ≡ a)
+  entered-in n x a there f = by-events ids h EnteredBefore entered-kept none-before n x a (event-below n x there) there f
+
+-- ---- whose commands a message ends
+
+pub own-order : (p : ℕ) (o : Order) → reachesOthers o ≡ false → (a : Task) → picks (endsOf p o) a ≡ true → a .path ≡ p
+own-order p (AbortTask tag2) r a e = eqb-true _ _ (both _ _ (meets _ a e .whose) .0)
+own-order p (AbortTaskSet lun) r a e = eqb-true _ _ (meets _ a e .whose)
+own-order p (ClearTaskSet lun) r a e = absurd (never refl r)
+own-order p (ClearAca lun) r a e = eqb-true _ _ (meets _ a e .whose)
+own-order p (UnitReset lun) r a e = absurd (never refl r)
+own-order p TargetReset r a e = absurd (never refl r)
+
+-- what it ends is from the path at p
+abbrev EndsFrom : ℕ → Effect → Type 0
+EndsFrom p Nothing = Unit {0}
+EndsFrom p (Accepts a) = Unit {0}
+EndsFrom p (Starts arrival) = Unit {0}
+EndsFrom p (Ends s how) = (a : Task) → picks s a ≡ true → a .path ≡ p
+
+own-message : (ids : List ℕ) (path tag : ℕ) (w : What) (a : Answer) → mayReachOthers w ≡ false
+    → EndsFrom (placeIn ids path) (messageEffect ids (By path tag w) a)
+own-message ids path tag (Command lun flags) a r =
+    command-can (EndsFrom (placeIn ids path)) tt (placeIn ids path) tag lun (kindOf (flags .queue)) (λ _. tt) a
+own-message ids path tag (Manage o) a r = order-can (EndsFrom (placeIn ids path)) tt (placeIn ids path) o (own-order (placeIn ids path) o r) a
+
+pub ends-its-own : EndsItsOwn
+ends-its-own ids h k e x m buf path tag w g i y there sent asked r =
+    let c = caused-in ids h k e x g i in
+    let f : messageEffect ids (By path tag w) (y .answer) ≡ Ends (c .selection) (x .how) =
+    ap (λ (q : Asked). messageEffect ids q (y .answer)) (sym asked)
+    ∙ ap (λ (v : Event). effectOf ids v (y .answer)) (sym sent)
+    ∙ ap (did ids) (same-element there (c .there))
+    ∙ c .effect in
+    subst (EndsFrom (placeIn ids path)) f (own-message ids path tag w (y .answer) r) (e .task) (c .picked)

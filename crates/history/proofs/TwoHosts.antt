@@ -1,0 +1,8 @@
+-- The ledger of two hosts that count their tags alike, computed. Assumes nothing.
+use mathlib.Core.Path.{refl}
+use Rattle.history.specs.TwoHosts.{twoHosts, TwoHostsLedger}
+use Rattle.history.proofs.Computing.{computing}
+
+pub two-hosts : TwoHostsLedger
+unfolding computing twoHosts
+two-hosts = refl

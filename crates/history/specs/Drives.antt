@@ -1,0 +1,124 @@
+-- Wrong drives: each differs from the engine in one thing, and each breaks demand 3 on a short trace.
+use Prim.Native.Nat.{ℕ, zero, suc, _-_, _^_}
+use mathlib.Core.Path.{_≡_}
+use mathlib.Core.Bool.{cond}
+use mathlib.Core.List.{List, [], _∷_}
+use lib.ListN.{length}
+use lib.Dec.{eqb}
+use Rattle.wire.specs.Paper
+use Rattle.wire.specs.Messages.{readOf}
+use Rattle.task.specs.Selections.{everyTask, named}
+use Rattle.table.specs.Tables.{endedBy}
+use Rattle.table.specs.declared.Table.{Table}
+use Rattle.plan.specs.Plans.{askedOf}
+use Rattle.engine.specs.Calls.{messageOf, startOf, finishOf, totalResetOf, out}
+use Rattle.rules.specs.declared.manage.Order.{Order}
+use Rattle.rules.specs.declared.manage.Order.the-variants.{AbortTask, AbortTaskSet, ClearTaskSet, ClearAca, UnitReset, TargetReset}
+use Rattle.plan.specs.declared.What.the-variants.{Command, Manage}
+use Rattle.plan.specs.declared.Asked.{Asked}
+use Rattle.plan.specs.declared.Asked.the-variants.{By, Unread}
+use Rattle.plan.specs.declared.Answer.the-variants as answer
+use Rattle.engine.specs.declared.Outcome.{Outcome}
+use Rattle.history.specs.Trace.{Event, Message, Start, Finish, TotalReset}
+use Rattle.history.specs.Demand.{Call, Contract, Demand3}
+
+-- a drive: what it hands back for an event and the table handed in
+abbrev pub Drive : Type 0
+Drive = Event → Table → Outcome
+
+-- the calls of a drive, one for each event
+unfoldable pub callsOf : Drive → Table → List Event → List Call
+callsOf drive t [] = []
+callsOf drive t (ev ∷ evs) = record { event = ev; outcome = drive ev t; left = [] } ∷ callsOf drive (drive ev t .table) evs
+
+abbrev pub ByDrive : Drive → Contract
+ByDrive drive ev t o left = o ≡ drive ev t
+
+-- the engine as a drive
+unfoldable pub engine : Drive
+engine (Message m buf) t = messageOf t m (length buf)
+engine (Start unit) t = startOf t unit
+engine (Finish arrival status sense buf) t = finishOf t arrival status sense (length buf)
+engine TotalReset t = totalResetOf t
+
+-- ---- the engine's outcome, with one thing wrong
+
+abbrev pub withTable : Outcome → Table → Outcome
+withTable o t = out t (o .answer) (o .to)
+
+-- it works at the first call after a setup whose first arrival number is 1, and afterwards echoes its table
+unfoldable pub echoes : Drive
+echoes ev t = withTable (engine ev t) (cond (eqb (t .next) 1) (engine ev t .table) t)
+
+-- the task with a tag of every path below p is ended
+unfoldable pub endedByTag : ℕ → Table → ℕ → Table
+endedByTag zero t tag = t
+endedByTag (suc p) t tag = endedBy (endedByTag p t tag) (named p tag)
+
+-- ABORT TASK ends by the tag without the path
+abbrev pub abortsByTag : Outcome → Order → Outcome
+abortsByTag o (AbortTask tag2) = withTable o (endedByTag 8 (o .table) tag2)
+abortsByTag o (AbortTaskSet lun) = o
+abortsByTag o (ClearTaskSet lun) = o
+abortsByTag o (ClearAca lun) = o
+abortsByTag o (UnitReset lun) = o
+abortsByTag o TargetReset = o
+
+abbrev pub asksByTag : Outcome → Asked → Outcome
+asksByTag o (Unread n) = o
+asksByTag o (By path tag (Command lun flags)) = o
+asksByTag o (By path tag (Manage order)) = abortsByTag o order
+
+unfoldable pub goesByTag : Drive
+goesByTag (Message m buf) t = asksByTag (messageOf t m (length buf)) (askedOf (readOf m))
+goesByTag (Start unit) t = engine (Start unit) t
+goesByTag (Finish arrival status sense buf) t = engine (Finish arrival status sense buf) t
+goesByTag TotalReset t = engine TotalReset t
+
+-- total reset starts the arrival numbers anew, at 1
+abbrev pub fromOne : Table → Table
+fromOne t = record { live = t .live; next = 1; count = t .count; attached = t .attached; paths = t .paths; units = t .units; tasks = t .tasks }
+
+unfoldable pub restarts : Drive
+restarts (Message m buf) t = engine (Message m buf) t
+restarts (Start unit) t = engine (Start unit) t
+restarts (Finish arrival status sense buf) t = engine (Finish arrival status sense buf) t
+restarts TotalReset t = withTable (totalResetOf t) (fromOne (totalResetOf t .table))
+
+-- every finish is answered by a STATUS
+unfoldable pub finishesAll : Drive
+finishesAll (Message m buf) t = engine (Message m buf) t
+finishesAll (Start unit) t = engine (Start unit) t
+finishesAll (Finish arrival status sense buf) t = out (finishOf t arrival status sense (length buf) .table) (answer.Status 0 status sense) 0
+finishesAll TotalReset t = engine TotalReset t
+
+-- a start loses the tasks
+unfoldable pub losesTasks : Drive
+losesTasks (Message m buf) t = engine (Message m buf) t
+losesTasks (Start unit) t = withTable (startOf t unit) (endedBy (startOf t unit .table) everyTask)
+losesTasks (Finish arrival status sense buf) t = engine (Finish arrival status sense buf) t
+losesTasks TotalReset t = engine TotalReset t
+
+-- every record is said to be live
+abbrev pub allLive : Table → Table
+allLive t = record { live = 2 ^ 64 - 1; next = t .next; count = t .count; attached = t .attached; paths = t .paths; units = t .units; tasks = t .tasks }
+
+unfoldable pub inventsLive : Drive
+inventsLive ev t = withTable (engine ev t) (allLive (engine ev t .table))
+
+-- none of them meets demand 3
+pub record WrongDrives : Type 0 where
+  pub not-echoes : Demand3 (ByDrive echoes) → ⊥
+  pub not-by-tag : Demand3 (ByDrive goesByTag) → ⊥
+  pub not-restarts : Demand3 (ByDrive restarts) → ⊥
+  pub not-finishes-all : Demand3 (ByDrive finishesAll) → ⊥
+  pub not-loses : Demand3 (ByDrive losesTasks) → ⊥
+  pub not-invents : Demand3 (ByDrive inventsLive) → ⊥
+
+-- ---- what demand 3 alone does not refuse: a drive that refuses every call. Demand 2 does, at example c.
+
+unfoldable pub refusesAll : Drive
+refusesAll ev t = out t (answer.Refused Paper.notHandled) 0
+
+abbrev pub RefusingMeets : Type 0
+RefusingMeets = Demand3 (ByDrive refusesAll)

@@ -1,0 +1,6 @@
+-- Demand 3: what a trace shows, the ledger worked out from it, what the table at its end then holds, and drives that break it.
+pub mod Trace
+pub mod Ledger
+pub mod Demand
+pub mod Drives
+pub mod TwoHosts

@@ -1,0 +1,113 @@
+-- The plan of an answer: what a message asks, what is answered, and what that does to paths and units (the change) and to the records (the deed).
+use Prim.Native.Nat.{ℕ}
+use mathlib.Core.Bool.{Bool, true, false, cond}
+use mathlib.Core.List.{List}
+use lib.Dec.{eqb}
+use Rattle.wire.specs.Paper
+use Rattle.wire.specs.declared.codes.Refusal.{Refusal}
+use Rattle.wire.specs.declared.codes.Queue.{Queue}
+use Rattle.wire.specs.declared.message.Flags.{Flags}
+use Rattle.wire.specs.declared.message.Message.{Message}
+use Rattle.wire.specs.declared.message.Message.the-variants as message
+use Rattle.task.specs.declared.Kind.{Kind}
+use Rattle.task.specs.declared.Kind.the-variants as kind
+use Rattle.table.specs.Tables.{markedIn, attendedIn}
+use Rattle.table.specs.declared.Path as path
+use Rattle.table.specs.declared.Unit as unit
+use Rattle.rules.specs.Rules.{deciding}
+use Rattle.rules.specs.Management.{endsOf, tagOf, unitOf, isClearSet, orderCode, orderPaths, orderUnits}
+use Rattle.rules.specs.declared.rules.Facts.{Facts}
+use Rattle.rules.specs.declared.rules.Mood.{Mood}
+use Rattle.rules.specs.declared.rules.Mood.the-variants.{Stay, Mark, Unmark, Attend}
+use Rattle.rules.specs.declared.rules.Ruling.{Ruling}
+use Rattle.rules.specs.declared.rules.Ruling.the-variants.{Refuse, Respond, Report, Accept}
+use Rattle.rules.specs.declared.manage.Order.{Order}
+use Rattle.rules.specs.declared.manage.Order.the-variants as order
+use Rattle.plan.specs.declared.What.{What}
+use Rattle.plan.specs.declared.What.the-variants.{Command, Manage}
+use Rattle.plan.specs.declared.Asked.{Asked}
+use Rattle.plan.specs.declared.Asked.the-variants.{By, Unread}
+use Rattle.plan.specs.declared.Change.{Change}
+use Rattle.plan.specs.declared.Change.the-variants as change
+use Rattle.plan.specs.declared.Deed.{Deed}
+use Rattle.plan.specs.declared.Deed.the-variants as deed
+use Rattle.plan.specs.declared.Plan.{Plan}
+use Rattle.plan.specs.declared.Answer.{Answer}
+use Rattle.plan.specs.declared.Answer.the-variants as answer
+
+-- ---- what a message asks: its RETURN PATH ID, its TAG, and a command or an order; or the reader's refusal
+
+abbrev pub askedOf : Message → Asked
+askedOf (message.Command tag path lun flags) = By path tag (Command lun flags)
+askedOf (message.AbortTask tag path tag2) = By path tag (Manage (order.AbortTask tag2))
+askedOf (message.AbortTaskSet tag path lun) = By path tag (Manage (order.AbortTaskSet lun))
+askedOf (message.ClearTaskSet tag path lun) = By path tag (Manage (order.ClearTaskSet lun))
+askedOf (message.TargetReset tag path) = By path tag (Manage order.TargetReset)
+askedOf (message.ClearAca tag path lun) = By path tag (Manage (order.ClearAca lun))
+askedOf (message.UnitReset tag path lun) = By path tag (Manage (order.UnitReset lun))
+askedOf (message.Refused n) = Unread n
+
+-- the tag and the unit that are asked about: a command's own, or those that an order names
+abbrev pub tagAsked : ℕ → What → ℕ
+tagAsked tag (Command lun flags) = tag
+tagAsked tag (Manage o) = tagOf o
+
+abbrev pub unitAsked : What → ℕ
+unitAsked (Command lun flags) = lun
+unitAsked (Manage o) = unitOf o
+
+abbrev pub clearsSet : What → Bool
+clearsSet (Command lun flags) = false
+clearsSet (Manage o) = isClearSet o
+
+-- QUEUE CNTL
+abbrev pub kindOf : Queue → Kind
+kindOf q =
+    cond (eqb (q .0) (Paper.queueAca .0)) kind.Aca
+    (cond (eqb (q .0) (Paper.queueHead .0)) kind.Head (cond (eqb (q .0) (Paper.queueOrdered .0)) kind.Ordered kind.Simple))
+
+-- ---- the plan
+
+abbrev pub planned : Answer → Change → Deed → Plan
+planned a c d = record { answer = a; change = c; deed = d }
+
+-- a refusal changes nothing
+abbrev pub refusing : Refusal → Plan
+refusing n = planned (answer.Refused n) change.Nothing deed.Nothing
+
+-- a ruling on a command of the path at p with a TAG, a LUN and flags, under the next arrival number
+abbrev pub ruled : ℕ → ℕ → ℕ → ℕ → Flags → Ruling → Plan
+ruled next p tag lun flags (Refuse n) = refusing n
+ruled next p tag lun flags (Respond code mood) = planned (answer.Response tag code) (change.Sender p mood) deed.Nothing
+ruled next p tag lun flags (Report status sense mood) = planned (answer.Status tag status sense) (change.Sender p mood) deed.Nothing
+ruled next p tag lun flags Accept = planned (answer.Accepted next) (change.Sender p Unmark) (deed.Accept p tag lun (kindOf (flags .queue)))
+
+-- an order of the path at p changes the table only where it is answered 00h
+unfoldable pub orderPlan : Facts → ℕ → ℕ → List ℕ → Order → Plan
+orderPlan f p tag m o =
+    cond (eqb (orderCode f m o .0) (Paper.done .0))
+    (planned (answer.Response tag (orderCode f m o)) (change.Besides (f .losers) o) (deed.End (endsOf p o)))
+    (planned (answer.Response tag (orderCode f m o)) change.Nothing deed.Nothing)
+
+abbrev pub planOf : Facts → ℕ → ℕ → ℕ → List ℕ → What → Plan
+planOf f next p tag m (Command lun flags) = ruled next p tag lun flags (deciding f flags m .gives)
+planOf f next p tag m (Manage o) = orderPlan f p tag m o
+
+-- ---- what a change does to paths and units
+
+-- a command's answer and the sender's mark and attention: the mark is cleared once rule 2 is passed; attention that was reported becomes none
+abbrev pub inMood : List path.Path → ℕ → Mood → List path.Path
+inMood paths p Stay = paths
+inMood paths p Mark = markedIn paths p true
+inMood paths p Unmark = markedIn paths p false
+inMood paths p Attend = attendedIn (markedIn paths p false) p
+
+abbrev pub pathsAfter : List path.Path → ℕ → Change → List path.Path
+pathsAfter paths count change.Nothing = paths
+pathsAfter paths count (change.Sender p mood) = inMood paths p mood
+pathsAfter paths count (change.Besides losers o) = orderPaths paths count losers o
+
+abbrev pub unitsAfter : List unit.Unit → Change → List unit.Unit
+unitsAfter units change.Nothing = units
+unitsAfter units (change.Sender p mood) = units
+unitsAfter units (change.Besides losers o) = orderUnits units o

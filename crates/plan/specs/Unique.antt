@@ -1,0 +1,22 @@
+-- Each public function's contract determines its answer: two answers that are each what it says are equal.
+use Prim.Native.Nat.{ℕ}
+use mathlib.Core.List.{List}
+use Rattle.wire.specs.declared.codes.Refusal.{Refusal}
+use Rattle.wire.specs.declared.message.Message.{Message}
+use Rattle.task.specs.Promises.{One}
+use Rattle.table.specs.declared.Path as path
+use Rattle.table.specs.declared.Unit as unit
+use Rattle.rules.specs.declared.rules.Facts.{Facts}
+use Rattle.plan.specs.Plans.{askedOf, tagAsked, unitAsked, clearsSet, refusing, planOf, pathsAfter, unitsAfter}
+use Rattle.plan.specs.declared.What.{What}
+use Rattle.plan.specs.declared.Change.{Change}
+
+pub record AnswersAreOne : Type 0 where
+  pub ask : (g : Message) → One (askedOf g)
+  pub tag-asked : (tag : ℕ) (w : What) → One (tagAsked tag w)
+  pub unit-asked : (w : What) → One (unitAsked w)
+  pub clears-set : (w : What) → One (clearsSet w)
+  pub refuse : (n : Refusal) → One (refusing n)
+  pub find-plan : (f : Facts) (next p tag : ℕ) (m : List ℕ) (w : What) → One (planOf f next p tag m w)
+  pub change-paths : (paths : List path.Path) (count : ℕ) (c : Change) → One (pathsAfter paths count c)
+  pub change-units : (units : List unit.Unit) (c : Change) → One (unitsAfter units c)

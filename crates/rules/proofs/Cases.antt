@@ -1,0 +1,132 @@
+-- The tests of the rules, what the rules ask of the table, the first rule that applies, and the return code of an order: a lemma for each way out of the functions of `rules` and `manage`. Assumes nothing.
+--     hit, skip      a rule whose test the code makes by a call
+--     hit-it, skip-it      a rule whose test is a fact as it stands
+use Prim.Native.Nat.{ℕ}
+use mathlib.Core.Path.{_≡_, refl, sym, _∙_}
+use mathlib.Core.Bool.{Bool, true, false, cond, not, Bool·not-not}
+use mathlib.Core.List.{List, [], _∷_}
+use lib.Dec.{eqb}
+use borrow.Author.Tests.{not-true, not-false, eq-eqb, ne-eqb}
+use Rattle.wire.specs.Paper
+use Rattle.wire.specs.Messages.{reservedSet}
+use Rattle.wire.specs.Block.{opcode}
+use Rattle.wire.specs.declared.codes.ReturnCode.{ReturnCode}
+use Rattle.wire.specs.declared.message.Flags.{Flags}
+use Rattle.task.specs.Selections.{named, acaOn}
+use Rattle.table.specs.Tables.{pathAt, unitAt, isAttached, anyLive, hasRoom, losersOf}
+use Rattle.table.specs.Sound.{ownedBy}
+use Rattle.table.specs.declared.Path as path
+use Rattle.table.specs.declared.Unit as unit
+use Rattle.table.specs.declared.Table.{Table}
+use Rattle.rules.specs.First.{Rule, rule, firstThat}
+use Rattle.rules.specs.Rules.{hasAca, factsOf, asksAca, barred, passesAttention, decided, decision}
+use Rattle.rules.specs.Management.{hasUnit, carriedCode, orderCode}
+use Rattle.rules.specs.declared.rules.Facts.{Facts}
+use Rattle.rules.specs.declared.rules.Ruling.{Ruling}
+use Rattle.rules.specs.declared.rules.Decision.{Decision}
+use Rattle.rules.specs.declared.manage.Order.{Order}
+
+-- ---- what is asked of the table
+
+module _ (t : Table) (p lun : ℕ) {clears : Bool} {n : ℕ} where
+  pub losers-asked : {k : ℕ} → n ≡ k → k ≡ losersOf t lun p → clears ≡ true → n ≡ cond clears (losersOf t lun p) 0
+  losers-asked e h a = e ∙ rw (h, a)
+
+  pub nobody-asked : n ≡ 0 → clears ≡ false → n ≡ cond clears (losersOf t lun p) 0
+  nobody-asked e a = e ∙ rw a
+
+module _ (t : Table) (p tag lun : ℕ) (clears : Bool) {s : path.Path} {u : unit.Unit} {room taken attached aca owned busy : Bool} {losers : ℕ} where
+  pub looked :
+      s ≡ pathAt t p → u ≡ unitAt t lun → room ≡ hasRoom t → taken ≡ anyLive t (named p tag) → attached ≡ isAttached t lun → aca ≡ hasAca (u .aca)
+      → owned ≡ ownedBy (u .aca) p → busy ≡ anyLive t (acaOn lun) → losers ≡ cond clears (losersOf t lun p) 0
+      → record { marked = s .full; attention = s .attention; room = room; taken = taken; attached = attached; aca = aca; owned = owned; busy = busy; losers = losers }
+      ≡ factsOf t p tag lun clears
+  unfolding factsOf
+  looked e h a b c d f g k = rw (a, b, c, d, f, g, k, e, h)
+
+pub ruleset look-cases = (looked, losers-asked, nobody-asked)
+
+-- ---- the unit's ACA keeps a command out
+
+module _ (f : Facts) (g : Flags) where
+  pub no-aca : not (f .aca) ≡ true → false ≡ barred f g
+  unfolding barred
+  no-aca h = rw (not-true (f .aca) h)
+
+  module _ (a : not (f .aca) ≡ false) where
+    pub not-owned : not (f .owned) ≡ true → true ≡ barred f g
+    unfolding barred
+    not-owned h = rw (not-false (f .aca) a, not-true (f .owned) h)
+
+    module _ (o : not (f .owned) ≡ false) {k : Bool} (e : k ≡ asksAca g) where
+      pub other-kind : not k ≡ true → true ≡ barred f g
+      unfolding barred
+      other-kind h = rw (not-false (f .aca) a, not-false (f .owned) o, ← e, not-true k h)
+
+      pub owner-asks : not k ≡ false → f .busy ≡ barred f g
+      unfolding barred
+      owner-asks h = rw (not-false (f .aca) a, not-false (f .owned) o, ← e, not-false k h) (sym (Bool·not-not (f .busy)))
+
+pub ruleset barred-cases = (no-aca, not-owned, other-kind, owner-asks)
+
+-- ---- the commands that go past a pending attention
+
+module _ (m : List ℕ) {x : ℕ} (e : x ≡ opcode m) where
+  pub inquiry : x ≡ 0x12 → true ≡ passesAttention m
+  unfolding passesAttention
+  inquiry h = rw (← e, eq-eqb _ _ h)
+
+  pub no-inquiry : (x ≡ 0x12 → ⊥) → eqb x 0x03 ≡ passesAttention m
+  unfolding passesAttention
+  no-inquiry h = rw (← e, ne-eqb _ _ h)
+
+pub ruleset passes-cases = (inquiry, no-inquiry)
+
+-- ---- the first rule that applies
+
+pub none-applies : (n field : ℕ) (a : Ruling) (x : Bool) → decided n a ≡ decision (firstThat [] (rule n x field a))
+unfolding firstThat
+none-applies n field a x = refl
+
+module _ (rs : List Rule) (last : Rule) (n field : ℕ) (a : Ruling) (x : Bool) {d : Decision} where
+  pub hit-it : x ≡ true → d ≡ decided n a → d ≡ decision (firstThat (rule n x field a ∷ rs) last)
+  unfolding firstThat
+  hit-it h e = rw h e
+
+  pub skip-it : x ≡ false → d ≡ decision (firstThat rs last) → d ≡ decision (firstThat (rule n x field a ∷ rs) last)
+  unfolding firstThat
+  skip-it h e = rw h e
+
+  module _ {b : Bool} (k : b ≡ x) where
+    pub hit : b ≡ true → d ≡ decided n a → d ≡ decision (firstThat (rule n x field a ∷ rs) last)
+    unfolding firstThat
+    hit h e = rw (← k, h) e
+
+    pub skip : b ≡ false → d ≡ decision (firstThat rs last) → d ≡ decision (firstThat (rule n x field a ∷ rs) last)
+    unfolding firstThat
+    skip h e = rw (← k, h) e
+
+pub ruleset first-cases = (none-applies, hit, skip, hit-it, skip-it)
+
+-- ---- the return code of an order
+
+module _ (f : Facts) (m : List ℕ) (o : Order) {b : Bool} (e : b ≡ reservedSet m) where
+  pub reserved : b ≡ true → Paper.invalidField ≡ orderCode f m o
+  unfolding orderCode
+  reserved h = rw (← e, h)
+
+  module _ (h : b ≡ false) {u : Bool} (k : u ≡ hasUnit o) where
+    pub no-such-unit : u ≡ true → not (f .attached) ≡ true → Paper.invalidField ≡ orderCode f m o
+    unfolding orderCode
+    no-such-unit x y = rw (← e, h, ← k, x, y)
+
+    module _ {code : ReturnCode} (i : code ≡ carriedCode f o) where
+      pub unit-there : u ≡ true → not (f .attached) ≡ false → code ≡ orderCode f m o
+      unfolding orderCode
+      unit-there x y = rw (← e, h, ← k, x, y) i
+
+      pub no-unit : u ≡ false → code ≡ orderCode f m o
+      unfolding orderCode
+      no-unit x = rw (← e, h, ← k, x) i
+
+pub ruleset code-cases = (reserved, no-such-unit, unit-there, no-unit)

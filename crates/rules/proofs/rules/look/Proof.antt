@@ -1,0 +1,51 @@
+-- `rules::look` meets its contract. Assumes nothing.
+use mathlib.Core.Logic.{⊎-elim}
+use borrow.Author.Needs.{needs}
+use Rattle.rules.proofs.Cases.{look-cases}
+use Rattle.rules.proofs.rules.look.Statement.{statement}
+use Rattle.rules.proofs.rules.look.Tie as tie
+
+path-at-requires : tie.Need-path-at-requires
+path-at-requires c κs = search needs
+
+unit-at-requires : tie.Need-unit-at-requires
+unit-at-requires c κs = search needs
+
+losers-requires : tie.Need-losers-requires
+losers-requires c κs = search needs
+
+has-room-requires : tie.Need-has-room-requires
+has-room-requires c κs = search needs
+
+any-requires : tie.Need-any-requires
+any-requires c κs = search needs
+
+is-attached-requires : tie.Need-is-attached-requires
+is-attached-requires c κs = search needs
+
+has-aca-requires : tie.Need-has-aca-requires
+has-aca-requires c κs = search needs
+
+owned-by-requires : tie.Need-owned-by-requires
+owned-by-requires c κs = search needs
+
+any-requires-2 : tie.Need-any-requires-2
+any-requires-2 c κs = search needs
+
+returns : tie.Need-returns
+returns c = ⊎-elim (λ w. search look-cases) (λ w. search look-cases) (c .before .before .before .before .before .before .if1 .came)
+
+pub look-spec : {M : Type 1} → statement M
+look-spec =
+    tie.close
+    (tie.spec
+    path-at-requires
+    unit-at-requires
+    losers-requires
+    has-room-requires
+    any-requires
+    is-attached-requires
+    has-aca-requires
+    owned-by-requires
+    any-requires-2
+    returns)

@@ -1,0 +1,45 @@
+-- Which tasks an order picks to end: nine orders of one path over tasks of two.
+use mathlib.Core.Path.{_≡_}
+use mathlib.Core.Bool.{Bool, true, false}
+use mathlib.Core.List.{List, [], _∷_, map}
+use Rattle.task.specs.Selections.{picks}
+use Rattle.task.specs.declared.Task.{Task}
+use Rattle.task.specs.declared.Kind.the-variants.{Aca, Simple}
+use Rattle.task.specs.declared.Phase.the-variants.{Waiting}
+use Rattle.rules.specs.Management.{endsOf}
+use Rattle.rules.specs.declared.manage.Order.{Order}
+use Rattle.rules.specs.declared.manage.Order.the-variants.{AbortTask, AbortTaskSet, ClearTaskSet, ClearAca, UnitReset, TargetReset}
+
+-- tag 0005h of the paths at 0 and 1 on unit 0, and tag 0006h of the path at 1, the ACA task, on unit 1
+unfoldable pub shared : List Task
+shared =
+    record { arrival = 1; tag = 5; path = 0; unit = 0; kind = Simple; phase = Waiting }
+    ∷ record { arrival = 2; tag = 5; path = 1; unit = 0; kind = Simple; phase = Waiting }
+    ∷ record { arrival = 3; tag = 6; path = 1; unit = 1; kind = Aca; phase = Waiting }
+    ∷ []
+
+-- an order, and whether it ends each of the three
+pub record Example : Type 0 where
+  pub order : Order
+  pub ended : List Bool
+
+abbrev pub ends : Order → Bool → Bool → Bool → Example
+ends o first second third = record { order = o; ended = first ∷ second ∷ third ∷ [] }
+
+unfoldable pub examples : List Example
+examples =
+    ends (AbortTask 5) false true false
+    ∷ ends (AbortTask 6) false false true
+    ∷ ends (AbortTask 7) false false false
+    ∷ ends (AbortTaskSet 0) false true false
+    ∷ ends (ClearTaskSet 0) true true false
+    ∷ ends (ClearAca 0) false false false
+    ∷ ends (ClearAca 1) false false true
+    ∷ ends (UnitReset 0) true true false
+    ∷ ends TargetReset true true true
+    ∷ []
+
+-- each order of the path at 1 picks the tasks said
+abbrev pub OrdersPick : Type 0
+OrdersPick =
+    map (λ (e : Example). map (λ (a : Task). picks (endsOf 1 (e .order)) a) shared) examples ≡ map (λ (e : Example). e .ended) examples

@@ -1,0 +1,95 @@
+-- Management: what an order ends, which return code it gets, and what else it does to paths and units.
+use Prim.Native.Nat.{ℕ}
+use mathlib.Core.Bool.{Bool, true, false, cond, not, _&&_}
+use mathlib.Core.List.{List}
+use Rattle.wire.specs.Paper
+use Rattle.wire.specs.Messages.{reservedSet}
+use Rattle.wire.specs.declared.codes.ReturnCode.{ReturnCode}
+use Rattle.task.specs.Selections.{everyTask, named, onUnit, fromOn, acaFromOn}
+use Rattle.task.specs.declared.select.Selection.{Selection}
+use Rattle.task.specs.declared.select.Place.the-variants.{Anywhere, On}
+use Rattle.table.specs.Tables.{warnedIn, alarmedIn, acaClearedIn}
+use Rattle.table.specs.declared.Path as path
+use Rattle.table.specs.declared.Unit as unit
+use Rattle.rules.specs.declared.rules.Facts.{Facts}
+use Rattle.rules.specs.declared.manage.Order.{Order}
+use Rattle.rules.specs.declared.manage.Order.the-variants.{AbortTask, AbortTaskSet, ClearTaskSet, ClearAca, UnitReset, TargetReset}
+
+-- what an order of the path at p ends, taken from the order alone
+abbrev pub endsOf : ℕ → Order → Selection
+endsOf p (AbortTask tag2) = named p tag2
+endsOf p (AbortTaskSet lun) = fromOn p lun
+endsOf p (ClearTaskSet lun) = onUnit lun
+endsOf p (ClearAca lun) = acaFromOn p lun
+endsOf p (UnitReset lun) = onUnit lun
+endsOf p TargetReset = everyTask
+
+-- ---- what an order asks of the table: about the tag and the unit that it names, 0 where it names none
+
+abbrev pub tagOf : Order → ℕ
+tagOf (AbortTask tag2) = tag2
+tagOf (AbortTaskSet lun) = 0
+tagOf (ClearTaskSet lun) = 0
+tagOf (ClearAca lun) = 0
+tagOf (UnitReset lun) = 0
+tagOf TargetReset = 0
+
+abbrev pub unitOf : Order → ℕ
+unitOf (AbortTask tag2) = 0
+unitOf (AbortTaskSet lun) = lun
+unitOf (ClearTaskSet lun) = lun
+unitOf (ClearAca lun) = lun
+unitOf (UnitReset lun) = lun
+unitOf TargetReset = 0
+
+-- it has a LUN field; it is CLEAR TASK SET
+abbrev pub hasUnit : Order → Bool
+hasUnit (AbortTask tag2) = false
+hasUnit (AbortTaskSet lun) = true
+hasUnit (ClearTaskSet lun) = true
+hasUnit (ClearAca lun) = true
+hasUnit (UnitReset lun) = true
+hasUnit TargetReset = false
+
+abbrev pub isClearSet : Order → Bool
+isClearSet (AbortTask tag2) = false
+isClearSet (AbortTaskSet lun) = false
+isClearSet (ClearTaskSet lun) = true
+isClearSet (ClearAca lun) = false
+isClearSet (UnitReset lun) = false
+isClearSet TargetReset = false
+
+-- ---- the return code
+
+-- ABORT TASK: 00h, or 01h if there is none. CLEAR ACA: 00h where the sender owns the unit's ACA, else 20h. The others: 00h
+abbrev pub carriedCode : Facts → Order → ReturnCode
+carriedCode f (AbortTask tag2) = cond (f .taken) Paper.done Paper.taskNotFound
+carriedCode f (AbortTaskSet lun) = Paper.done
+carriedCode f (ClearTaskSet lun) = Paper.done
+carriedCode f (ClearAca lun) = cond (f .owned) Paper.done Paper.noAca
+carriedCode f (UnitReset lun) = Paper.done
+carriedCode f TargetReset = Paper.done
+
+-- a reserved field not zero, or a LUN field naming a unit not attached, gives FFh
+unfoldable pub orderCode : Facts → List ℕ → Order → ReturnCode
+orderCode f m o = cond (reservedSet m) Paper.invalidField (cond (hasUnit o && not (f .attached)) Paper.invalidField (carriedCode f o))
+
+-- ---- what else an order does
+
+-- CLEAR TASK SET: every other path that lost a task gets cleared attention, unless reset is pending. A reset: reset attention on all paths; marks stay
+abbrev pub orderPaths : List path.Path → ℕ → ℕ → Order → List path.Path
+orderPaths paths count losers (AbortTask tag2) = paths
+orderPaths paths count losers (AbortTaskSet lun) = paths
+orderPaths paths count losers (ClearTaskSet lun) = warnedIn paths losers
+orderPaths paths count losers (ClearAca lun) = paths
+orderPaths paths count losers (UnitReset lun) = alarmedIn paths count false
+orderPaths paths count losers TargetReset = alarmedIn paths count false
+
+-- CLEAR ACA and LOGICAL UNIT RESET take the unit's ACA, TARGET RESET that of all units
+abbrev pub orderUnits : List unit.Unit → Order → List unit.Unit
+orderUnits units (AbortTask tag2) = units
+orderUnits units (AbortTaskSet lun) = units
+orderUnits units (ClearTaskSet lun) = units
+orderUnits units (ClearAca lun) = acaClearedIn units (On lun)
+orderUnits units (UnitReset lun) = acaClearedIn units (On lun)
+orderUnits units TargetReset = acaClearedIn units Anywhere

@@ -1,0 +1,141 @@
+-- A command, step by step: page 01's list of eleven rules, line by line. Rule 1's four lines stand apart; the fourth is that the others go on.
+use Prim.Native.Nat.{ℕ, _+_}
+use mathlib.Core.Bool.{Bool, true, false, cond, not, _&&_, _||_}
+use mathlib.Core.List.{List, [], _∷_, _++_}
+use lib.ListN.{length}
+use lib.Dec.{eqb}
+use Rattle.wire.specs.Paper
+use Rattle.wire.specs.Fields.{byte, word}
+use Rattle.wire.specs.Messages.{reservedSet}
+use Rattle.wire.specs.Block.{opcode, blockLength, cutShort, noBlock, linked}
+use Rattle.wire.specs.declared.message.Flags.{Flags}
+use Rattle.task.specs.Selections.{named, acaOn}
+use Rattle.table.specs.Tables.{pathAt, unitAt, isAttached, isReset, anyLive, hasRoom, losersOf}
+use Rattle.table.specs.Sound.{ownedBy}
+use Rattle.table.specs.declared.Table.{Table}
+use Rattle.table.specs.declared.Attention.{Attention}
+use Rattle.table.specs.declared.Attention.the-variants as attention
+use Rattle.table.specs.declared.Aca.{Aca}
+use Rattle.table.specs.declared.Aca.the-variants.{Clear, Owned}
+use Rattle.rules.specs.First.{Rule, rule, firstThat}
+use Rattle.rules.specs.declared.rules.Facts.{Facts}
+use Rattle.rules.specs.declared.rules.Mood.the-variants.{Stay, Mark, Unmark, Attend}
+use Rattle.rules.specs.declared.rules.Ruling.{Ruling}
+use Rattle.rules.specs.declared.rules.Ruling.the-variants.{Refuse, Respond, Report, Accept}
+use Rattle.rules.specs.declared.rules.Decision.{Decision}
+
+-- ---- what the rules ask of the table, for the sender's place p in the path list
+
+abbrev pub hasAca : Aca → Bool
+hasAca Clear = false
+hasAca (Owned p) = true
+
+abbrev pub isCleared : Attention → Bool
+isCleared attention.Nothing = false
+isCleared attention.Reset = false
+isCleared attention.Cleared = true
+
+-- about its task with a tag and about a unit; who else would lose a task on the unit is asked only for CLEAR TASK SET
+unfoldable pub factsOf : Table → ℕ → ℕ → ℕ → Bool → Facts
+factsOf t p tag lun clears = record {
+  marked = pathAt t p .full;
+  attention = pathAt t p .attention;
+  room = hasRoom t;
+  taken = anyLive t (named p tag);
+  attached = isAttached t lun;
+  aca = hasAca (unitAt t lun .aca);
+  owned = ownedBy (unitAt t lun .aca) p;
+  busy = anyLive t (acaOn lun);
+  losers = cond clears (losersOf t lun p) 0;
+}
+
+-- ---- when a rule applies: f is what was asked of the table, g are the flags of byte 10, m is the message
+
+-- QUEUE CNTL says ACA
+abbrev pub asksAca : Flags → Bool
+asksAca g = eqb (g .queue .0) (Paper.queueAca .0)
+
+-- RESUME set, path not marked
+unfoldable pub resumesUnmarked : Facts → Flags → Bool
+resumesUnmarked f g = g .resume && not (f .marked)
+
+-- RESUME clear, marked
+unfoldable pub missesResume : Facts → Flags → Bool
+missesResume f g = not (g .resume) && f .marked
+
+-- unit has ACA: pass only if the sender owns it, the kind is ACA and no ACA task is live on the unit
+unfoldable pub barred : Facts → Flags → Bool
+barred f g = f .aca && not (f .owned && (asksAca g && not (f .busy)))
+
+-- no ACA and kind ACA
+unfoldable pub stray : Facts → Flags → Bool
+stray f g = not (f .aca) && asksAca g
+
+-- first CDB byte 12h (INQUIRY) or 03h (REQUEST SENSE)
+unfoldable pub passesAttention : List ℕ → Bool
+passesAttention m = eqb (opcode m) 0x12 || eqb (opcode m) 0x03
+
+unfoldable pub resetPending : Facts → List ℕ → Bool
+resetPending f m = isReset (f .attention) && not (passesAttention m)
+
+unfoldable pub clearedPending : Facts → List ℕ → Bool
+clearedPending f m = isCleared (f .attention) && not (passesAttention m)
+
+-- the first reserved field that is not zero
+abbrev pub reservedField : List ℕ → ℕ
+reservedField m =
+    cond (eqb (byte m 9) 0) (cond (eqb (byte m 11) 0) (cond (eqb (byte m 14) 0) (cond (eqb (byte m 15) 0) (byte m 10) (byte m 15)) (byte m 14)) (byte m 11)) (byte m 9)
+
+-- ---- the list: number, when, the field value behind it, the answer with what it does to the sender's mark and attention
+
+-- 1. room, and 2. the length
+unfoldable pub roomRules : Facts → Flags → List ℕ → List Rule
+roomRules f g m =
+    rule 1 (resumesUnmarked f g) (byte m 10) (Respond Paper.invalidField Stay)
+    ∷ rule 1 (missesResume f g) (byte m 10) (Refuse Paper.discarded)
+    ∷ rule 1 (not (f .room)) (byte m 10) (Report Paper.taskSetFull Paper.noSense Mark)
+    ∷ rule 2 (cutShort m) (length m) (Refuse Paper.tooShort)
+    ∷ []
+
+-- 3. to 5.: the fields, CONFIRM, the tag. From here on the mark is cleared
+unfoldable pub fieldRules : Facts → Flags → List ℕ → List Rule
+fieldRules f g m =
+    rule 3 (reservedSet m) (reservedField m) (Respond Paper.invalidField Unmark)
+    ∷ rule 4 (g .confirm) (byte m 10) (Respond Paper.invalidField Unmark)
+    ∷ rule 5 (f .taken) (word m 2) (Respond Paper.overlapped Unmark)
+    ∷ []
+
+-- 6. to 8.: the unit, its ACA, the sender's attention
+unfoldable pub unitRules : Facts → Flags → List ℕ → List Rule
+unitRules f g m =
+    rule 6 (not (f .attached)) (byte m 8) (Report Paper.checkCondition Paper.noSuchUnit Unmark)
+    ∷ rule 7 (barred f g) (byte m 10) (Report Paper.acaActive Paper.noSense Unmark)
+    ∷ rule 7 (stray f g) (byte m 10) (Report Paper.checkCondition Paper.noAcaThere Unmark)
+    ∷ rule 8 (resetPending f m) (opcode m) (Report Paper.checkCondition Paper.resetOccurred Attend)
+    ∷ rule 8 (clearedPending f m) (opcode m) (Report Paper.checkCondition Paper.clearedByAnother Attend)
+    ∷ []
+
+-- 9. and 10.: the command block
+unfoldable pub blockRules : List ℕ → List Rule
+blockRules m =
+    rule 9 (noBlock m) (opcode m) (Report Paper.checkCondition Paper.unknownCommand Unmark)
+    ∷ rule 10 (linked m) (byte m (15 + blockLength m)) (Report Paper.checkCondition Paper.invalidInBlock Unmark)
+    ∷ []
+
+-- 11. accepted
+abbrev pub accepts : List ℕ → Rule
+accepts m = rule 11 true (opcode m) Accept
+
+unfoldable pub commandRules : Facts → Flags → List ℕ → List Rule
+commandRules f g m = roomRules f g m ++ (fieldRules f g m ++ (unitRules f g m ++ blockRules m))
+
+-- the rule that decided
+abbrev pub deciding : Facts → Flags → List ℕ → Rule
+deciding f g m = firstThat (commandRules f g m) (accepts m)
+
+-- its number and its answer
+abbrev pub decided : ℕ → Ruling → Decision
+decided number ruling = record { rule = number; ruling = ruling }
+
+abbrev pub decision : Rule → Decision
+decision r = decided (r .number) (r .gives)

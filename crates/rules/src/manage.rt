@@ -1,0 +1,177 @@
+// Management: what an order ends, which return code it gets, and what it does to the table.
+ghost use mathlib.Core.Path.{_≡_};
+ghost use Rattle.rules.specs.Management.{endsOf, tagOf, unitOf, isClearSet, hasUnit, carriedCode, orderCode, orderPaths, orderUnits};
+use crate::rules::Facts;
+use table::Path;
+use table::Unit;
+use task::Kind;
+use task::select::Place;
+use task::select::Selection;
+use task::select::Sort;
+use task::select::Whose;
+use wire::codes::ReturnCode;
+
+// An order, with the tag or the unit that it names.
+pub enum Order {
+    AbortTask(u16),
+    AbortTaskSet(u8),
+    ClearTaskSet(u8),
+    ClearAca(u8),
+    UnitReset(u8),
+    TargetReset,
+}
+
+// What an order of the path at p ends: taken from the order alone.
+pub fn ends(p: u8, o: Order) -> Selection
+    ensures { λ r. ⌜ r ≡ endsOf p o ⌝ }
+{
+    let all = Selection::ALL;
+    match o {
+        Order::AbortTask(tag2) => Selection {
+            whose: Whose::Named(p, tag2),
+            ..all
+        },
+        Order::AbortTaskSet(lun) => Selection {
+            whose: Whose::From(p),
+            place: Place::On(lun),
+            ..all
+        },
+        Order::ClearTaskSet(lun) => Selection {
+            place: Place::On(lun),
+            ..all
+        },
+        Order::ClearAca(lun) => Selection {
+            whose: Whose::From(p),
+            place: Place::On(lun),
+            sort: Sort::Just(Kind::Aca),
+            ..all
+        },
+        Order::UnitReset(lun) => Selection {
+            place: Place::On(lun),
+            ..all
+        },
+        Order::TargetReset => all,
+    }
+}
+
+// The tag of the task that an order names, and its unit; 0 where it names none.
+pub fn tag_of(o: Order) -> u16
+    ensures { λ r. ⌜ r ≡ tagOf o ⌝ }
+{
+    match o {
+        Order::AbortTask(tag2) => tag2,
+        Order::AbortTaskSet(_) => 0,
+        Order::ClearTaskSet(_) => 0,
+        Order::ClearAca(_) => 0,
+        Order::UnitReset(_) => 0,
+        Order::TargetReset => 0,
+    }
+}
+
+pub fn unit_of(o: Order) -> u8
+    ensures { λ r. ⌜ r ≡ unitOf o ⌝ }
+{
+    match o {
+        Order::AbortTask(_) => 0,
+        Order::AbortTaskSet(lun) => lun,
+        Order::ClearTaskSet(lun) => lun,
+        Order::ClearAca(lun) => lun,
+        Order::UnitReset(lun) => lun,
+        Order::TargetReset => 0,
+    }
+}
+
+// Whether the order is CLEAR TASK SET.
+pub fn clears_set(o: Order) -> bool
+    ensures { λ r. ⌜ r ≡ isClearSet o ⌝ }
+{
+    match o {
+        Order::AbortTask(_) => false,
+        Order::AbortTaskSet(_) => false,
+        Order::ClearTaskSet(_) => true,
+        Order::ClearAca(_) => false,
+        Order::UnitReset(_) => false,
+        Order::TargetReset => false,
+    }
+}
+
+// The return code of an order whose fields are right.
+fn carried_code(f: Facts, o: Order) -> ReturnCode
+    ensures { λ r. ⌜ r ≡ carriedCode f o ⌝ }
+{
+    match o {
+        Order::AbortTask(_) => {
+            if f.taken {
+                return ReturnCode::DONE;
+            }
+            ReturnCode::TASK_NOT_FOUND
+        }
+        Order::AbortTaskSet(_) => ReturnCode::DONE,
+        Order::ClearTaskSet(_) => ReturnCode::DONE,
+        Order::ClearAca(_) => {
+            if f.owned {
+                return ReturnCode::DONE;
+            }
+            ReturnCode::NO_ACA
+        }
+        Order::UnitReset(_) => ReturnCode::DONE,
+        Order::TargetReset => ReturnCode::DONE,
+    }
+}
+
+// Whether the order has a LUN field.
+fn has_unit(o: Order) -> bool
+    ensures { λ r. ⌜ r ≡ hasUnit o ⌝ }
+{
+    match o {
+        Order::AbortTask(_) => false,
+        Order::AbortTaskSet(_) => true,
+        Order::ClearTaskSet(_) => true,
+        Order::ClearAca(_) => true,
+        Order::UnitReset(_) => true,
+        Order::TargetReset => false,
+    }
+}
+
+// The return code of an order: FFh for a reserved field that is not zero, or a LUN that is not attached.
+pub fn order_code(f: Facts, m: &[u8], o: Order) -> ReturnCode
+    ensures { λ r. ⌜ r ≡ orderCode f (now (m .entry)) o ⌝ }
+{
+    if wire::message::reserved_set(m) {
+        return ReturnCode::INVALID_FIELD;
+    }
+    if has_unit(o) {
+        if !f.attached {
+            return ReturnCode::INVALID_FIELD;
+        }
+    }
+    carried_code(f, o)
+}
+
+// The paths after an order: CLEAR TASK SET warns those that lose a task, a reset alarms all. Marks stay.
+pub fn change_paths(paths: [Path; 8], count: u8, losers: u8, o: Order) -> [Path; 8]
+    ensures { λ r. ⌜ r ≡ orderPaths paths count losers o ⌝ }
+{
+    match o {
+        Order::AbortTask(_) => paths,
+        Order::AbortTaskSet(_) => paths,
+        Order::ClearTaskSet(_) => table::paths::warn(paths, losers),
+        Order::ClearAca(_) => paths,
+        Order::UnitReset(_) => table::paths::alarm(paths, count, false),
+        Order::TargetReset => table::paths::alarm(paths, count, false),
+    }
+}
+
+// The units after an order: CLEAR ACA and a reset take the ACA.
+pub fn change_units(units: [Unit; 8], o: Order) -> [Unit; 8]
+    ensures { λ r. ⌜ r ≡ orderUnits units o ⌝ }
+{
+    match o {
+        Order::AbortTask(_) => units,
+        Order::AbortTaskSet(_) => units,
+        Order::ClearTaskSet(_) => units,
+        Order::ClearAca(lun) => table::paths::clear_aca(units, Place::On(lun)),
+        Order::UnitReset(lun) => table::paths::clear_aca(units, Place::On(lun)),
+        Order::TargetReset => table::paths::clear_aca(units, Place::Anywhere),
+    }
+}

@@ -1,0 +1,309 @@
+// The rules of a command: the tests, and the first that applies.
+ghost use mathlib.Core.Path.{_≡_};
+ghost use mathlib.Core.List.{_++_};
+ghost use Rattle.wire.specs.Paper;
+ghost use Rattle.rules.specs.First.{firstThat};
+ghost use Rattle.rules.specs.Rules;
+ghost use Rattle.table.specs.Tables.{isReset};
+ghost use Rattle.rules.specs.Rules.{hasAca, isCleared, factsOf, asksAca, resumesUnmarked, missesResume, passesAttention, resetPending, clearedPending, fieldRules, unitRules, blockRules, accepts, deciding, decision};
+use table::Aca;
+use table::Attention;
+use table::Table;
+use task::Kind;
+use task::select::Place;
+use task::select::Selection;
+use task::select::Sort;
+use task::select::Whose;
+use wire::codes::Queue;
+use wire::codes::Refusal;
+use wire::codes::ReturnCode;
+use wire::codes::Sense;
+use wire::codes::StatusByte;
+use wire::message::Flags;
+
+// What the rules ask of the table, so that no table travels through them.
+pub struct Facts {
+    pub marked: bool,
+    pub attention: Attention,
+    pub room: bool,
+    pub taken: bool,
+    pub attached: bool,
+    pub aca: bool,
+    pub owned: bool,
+    pub busy: bool,
+    pub losers: u8,
+}
+
+// What an answer does to the sender's mark and attention.
+pub enum Mood {
+    Stay,
+    Mark,
+    Unmark,
+    Attend,
+}
+
+// What a rule answers. A refusal has no mood: it changes nothing.
+pub enum Ruling {
+    Refuse(Refusal),
+    Respond(ReturnCode, Mood),
+    Report(StatusByte, Sense, Mood),
+    Accept,
+}
+
+// The number of the rule that decided, and its answer.
+pub struct Decision {
+    pub rule: u8,
+    pub ruling: Ruling,
+}
+
+pub fn has_aca(a: Aca) -> bool
+    ensures { λ r. ⌜ r ≡ hasAca a ⌝ }
+{
+    match a {
+        Aca::Clear => false,
+        Aca::Owned(_) => true,
+    }
+}
+
+fn is_reset(a: Attention) -> bool
+    ensures { λ r. ⌜ r ≡ isReset a ⌝ }
+{
+    match a {
+        Attention::Nothing => false,
+        Attention::Reset => true,
+        Attention::Cleared => false,
+    }
+}
+
+fn is_cleared(a: Attention) -> bool
+    ensures { λ r. ⌜ r ≡ isCleared a ⌝ }
+{
+    match a {
+        Attention::Nothing => false,
+        Attention::Reset => false,
+        Attention::Cleared => true,
+    }
+}
+
+// What is asked of the table for the path at p, about its task with a tag and about a unit; who would lose a task on the unit only where that is asked.
+pub fn look(t: Table, p: u8, tag: u16, lun: u8, clears: bool) -> Facts
+    ensures { λ r. ⌜ r ≡ factsOf t p tag lun clears ⌝ }
+{
+    let all = Selection::ALL;
+    let sender = t.path_at(p as usize);
+    let attention = sender.attention;
+    let unit = t.unit_at(lun);
+    let aca = unit.aca;
+    let named = Selection {
+        whose: Whose::Named(p, tag),
+        ..all
+    };
+    let aca_task = Selection {
+        place: Place::On(lun),
+        sort: Sort::Just(Kind::Aca),
+        ..all
+    };
+    let losers = if clears { t.losers(lun, p) } else { 0 };
+    Facts {
+        marked: sender.full,
+        attention,
+        room: t.has_room(),
+        taken: t.any(named),
+        attached: t.is_attached(lun),
+        aca: has_aca(aca),
+        owned: table::sound::owned_by(aca, p),
+        busy: t.any(aca_task),
+        losers,
+    }
+}
+
+// RESUME set, path not marked.
+fn resumes_unmarked(f: Facts, g: Flags) -> bool
+    ensures { λ r. ⌜ r ≡ resumesUnmarked f g ⌝ }
+{
+    if g.resume {
+        return !f.marked;
+    }
+    false
+}
+
+// RESUME clear, marked.
+fn misses_resume(f: Facts, g: Flags) -> bool
+    ensures { λ r. ⌜ r ≡ missesResume f g ⌝ }
+{
+    if g.resume {
+        return false;
+    }
+    f.marked
+}
+
+fn asks_aca(g: Flags) -> bool
+    ensures { λ r. ⌜ r ≡ asksAca g ⌝ }
+{
+    let q = g.queue;
+    q.0 == Queue::ACA.0
+}
+
+// The unit has ACA, and it keeps this command out.
+fn barred(f: Facts, g: Flags) -> bool
+    ensures { λ r. ⌜ r ≡ Rules.barred f g ⌝ }
+{
+    if !f.aca {
+        return false;
+    }
+    if !f.owned {
+        return true;
+    }
+    if !asks_aca(g) {
+        return true;
+    }
+    f.busy
+}
+
+// No ACA and kind ACA.
+fn stray(f: Facts, g: Flags) -> bool
+    ensures { λ r. ⌜ r ≡ Rules.stray f g ⌝ }
+{
+    if f.aca {
+        return false;
+    }
+    asks_aca(g)
+}
+
+// INQUIRY and REQUEST SENSE go past a pending attention.
+fn passes_attention(m: &[u8]) -> bool
+    ensures { λ r. ⌜ r ≡ passesAttention (now (m .entry)) ⌝ }
+{
+    let first = wire::fields::byte_at(m, 16);
+    if first == 0x12 {
+        return true;
+    }
+    first == 0x03
+}
+
+fn reset_pending(f: Facts, m: &[u8]) -> bool
+    ensures { λ r. ⌜ r ≡ resetPending f (now (m .entry)) ⌝ }
+{
+    let pending = f.attention;
+    if is_reset(pending) {
+        return !passes_attention(m);
+    }
+    false
+}
+
+fn cleared_pending(f: Facts, m: &[u8]) -> bool
+    ensures { λ r. ⌜ r ≡ clearedPending f (now (m .entry)) ⌝ }
+{
+    let pending = f.attention;
+    if is_cleared(pending) {
+        return !passes_attention(m);
+    }
+    false
+}
+
+fn refuse(rule: u8, n: Refusal) -> Decision
+    ensures { λ r. ⌜ r ≡ Rules.decided rule (Ruling.Refuse n) ⌝ }
+{
+    Decision {
+        rule,
+        ruling: Ruling::Refuse(n),
+    }
+}
+
+fn respond(rule: u8, code: ReturnCode, mood: Mood) -> Decision
+    ensures { λ r. ⌜ r ≡ Rules.decided rule (Ruling.Respond code mood) ⌝ }
+{
+    Decision {
+        rule,
+        ruling: Ruling::Respond(code, mood),
+    }
+}
+
+fn report(rule: u8, status: StatusByte, sense: Sense, mood: Mood) -> Decision
+    ensures { λ r. ⌜ r ≡ Rules.decided rule (Ruling.Report status sense mood) ⌝ }
+{
+    Decision {
+        rule,
+        ruling: Ruling::Report(status, sense, mood),
+    }
+}
+
+// CHECK CONDITION, with sense.
+fn check(rule: u8, sense: Sense, mood: Mood) -> Decision
+    ensures { λ r. ⌜ r ≡ Rules.decided rule (Ruling.Report Paper.checkCondition sense mood) ⌝ }
+{
+    report(rule, StatusByte::CHECK_CONDITION, sense, mood)
+}
+
+// Rules 9 to 11: the command block.
+fn by_block(m: &[u8]) -> Decision
+    ensures { λ r. ⌜ r ≡ decision (firstThat (blockRules (now (m .entry))) (accepts (now (m .entry)))) ⌝ }
+{
+    if wire::block::no_length(m) {
+        return check(9, Sense::UNKNOWN_COMMAND, Mood::Unmark);
+    }
+    if wire::block::is_linked(m) {
+        return check(10, Sense::INVALID_IN_BLOCK, Mood::Unmark);
+    }
+    Decision {
+        rule: 11,
+        ruling: Ruling::Accept,
+    }
+}
+
+// Rules 6 to 8: the unit, its ACA, and the sender's attention; then those of the block.
+fn by_unit(f: Facts, g: Flags, m: &[u8]) -> Decision
+    ensures { λ r. ⌜ r ≡ decision (firstThat (unitRules f g (now (m .entry)) ++ blockRules (now (m .entry))) (accepts (now (m .entry)))) ⌝ }
+{
+    if !f.attached {
+        return check(6, Sense::NO_SUCH_UNIT, Mood::Unmark);
+    }
+    if barred(f, g) {
+        return report(7, StatusByte::ACA_ACTIVE, Sense::NONE, Mood::Unmark);
+    }
+    if stray(f, g) {
+        return check(7, Sense::NO_ACA_THERE, Mood::Unmark);
+    }
+    if reset_pending(f, m) {
+        return check(8, Sense::RESET_OCCURRED, Mood::Attend);
+    }
+    if cleared_pending(f, m) {
+        return check(8, Sense::CLEARED_BY_ANOTHER, Mood::Attend);
+    }
+    by_block(m)
+}
+
+// Rules 3 to 5: the fields, CONFIRM and the tag; then those of the unit.
+fn by_fields(f: Facts, g: Flags, m: &[u8]) -> Decision
+    ensures { λ r. ⌜ r ≡ decision (firstThat (fieldRules f g (now (m .entry)) ++ (unitRules f g (now (m .entry)) ++ blockRules (now (m .entry)))) (accepts (now (m .entry)))) ⌝ }
+{
+    if wire::message::reserved_set(m) {
+        return respond(3, ReturnCode::INVALID_FIELD, Mood::Unmark);
+    }
+    if g.confirm {
+        return respond(4, ReturnCode::INVALID_FIELD, Mood::Unmark);
+    }
+    if f.taken {
+        return respond(5, ReturnCode::OVERLAPPED, Mood::Unmark);
+    }
+    by_unit(f, g, m)
+}
+
+// The first rule that applies: rules 1 and 2, room and length; then the others.
+pub fn decide(f: Facts, g: Flags, m: &[u8]) -> Decision
+    ensures { λ r. ⌜ r ≡ decision (deciding f g (now (m .entry))) ⌝ }
+{
+    if resumes_unmarked(f, g) {
+        return respond(1, ReturnCode::INVALID_FIELD, Mood::Stay);
+    }
+    if misses_resume(f, g) {
+        return refuse(1, Refusal::DISCARDED);
+    }
+    if !f.room {
+        return report(1, StatusByte::TASK_SET_FULL, Sense::NONE, Mood::Mark);
+    }
+    if wire::block::cut_short(m) {
+        return refuse(2, Refusal::TOO_SHORT);
+    }
+    by_fields(f, g, m)
+}
