@@ -33,18 +33,18 @@ pub const BUFFER: usize = 80;
 pub const FILL: u8 = 0xaa;
 
 // The first n bytes, or all where there are fewer.
-pub fn front(b: &[u8; ROOM], n: usize) -> &[u8] {
+pub(crate) fn front(b: &[u8; ROOM], n: usize) -> &[u8] {
     let all: &[u8] = b;
     if n <= all.len() { &all[0..n] } else { all }
 }
 
 // The answer to a line that is no case.
-pub fn bad_case() {
+pub(crate) fn bad_case() {
     text(b"bad case");
 }
 
 // A refusal by its number.
-pub fn refused(r: Refusal) {
+pub(crate) fn refused(r: Refusal) {
     text(b"refused ");
     decimal(r.0 as usize);
 }
@@ -258,7 +258,7 @@ fn damage(b: &[u8]) {
 }
 
 // Answers the case of a letter with these bytes.
-pub fn run(letter: u8, bytes: &[u8]) {
+pub(crate) fn run(letter: u8, bytes: &[u8]) {
     match letter {
         b'm' => message(bytes),
         b'b' => block(bytes),

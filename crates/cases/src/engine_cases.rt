@@ -26,7 +26,7 @@ use wire::codes::StatusByte;
 use wire::fields::byte_at;
 
 // The arrival number that a byte stands for: FEh for 2^64 - 2, FFh for 2^64 - 1.
-pub fn arrival(b: u8) -> u64 {
+pub(crate) fn arrival(b: u8) -> u64 {
     if b == 0xff {
         return 0xffff_ffff_ffff_ffff;
     }
@@ -37,7 +37,7 @@ pub fn arrival(b: u8) -> u64 {
 }
 
 // Whether a case has n bytes; one that has not is answered here.
-pub fn has(c: &[u8], n: usize) -> bool {
+pub(crate) fn has(c: &[u8], n: usize) -> bool {
     if c.len() == n {
         return true;
     }
@@ -245,7 +245,7 @@ fn show(t: Table, c: &[u8]) {
 }
 
 // Answers the case of a letter with these bytes, and hands back the next table.
-pub fn run(t: Table, letter: u8, c: &[u8]) -> Table {
+pub(crate) fn run(t: Table, letter: u8, c: &[u8]) -> Table {
     match letter {
         b'U' => setup(t, c),
         b'M' => message(t, c),

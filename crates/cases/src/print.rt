@@ -4,51 +4,51 @@ use libc::STDOUT_FILENO;
 const DIGITS: [u8; 16] = *b"0123456789ABCDEF";
 
 // Writes the bytes as they are.
-pub fn text(t: &[u8]) {
+pub(crate) fn text(t: &[u8]) {
     io::write_all(STDOUT_FILENO, t);
 }
 
 // Two hex digits.
-pub fn hex(b: u8) {
+pub(crate) fn hex(b: u8) {
     let pair = [DIGITS[(b / 16) as usize], DIGITS[(b % 16) as usize]];
     text(&pair);
 }
 
 // Four hex digits.
-pub fn hex_word(w: u16) {
+pub(crate) fn hex_word(w: u16) {
     hex((w / 256) as u8);
     hex((w % 256) as u8);
 }
 
 // Eight hex digits.
-pub fn hex_long(l: u32) {
+pub(crate) fn hex_long(l: u32) {
     hex_word((l / 65536) as u16);
     hex_word((l % 65536) as u16);
 }
 
 // Sixteen hex digits.
-pub fn hex_map(m: u64) {
+pub(crate) fn hex_map(m: u64) {
     hex_long((m / 0x1_0000_0000) as u32);
     hex_long((m % 0x1_0000_0000) as u32);
 }
 
 // A number in decimal digits.
-pub fn number(n: u64) {
+pub(crate) fn number(n: u64) {
     io::print_decimal(STDOUT_FILENO, n);
 }
 
-pub fn decimal(n: usize) {
+pub(crate) fn decimal(n: usize) {
     number(n as u64);
 }
 
 // A word, and the number behind it.
-pub fn counted(word: &[u8], n: u64) {
+pub(crate) fn counted(word: &[u8], n: u64) {
     text(word);
     number(n);
 }
 
 // A word, and 1 or 0 behind it.
-pub fn flag(word: &[u8], is_set: bool) {
+pub(crate) fn flag(word: &[u8], is_set: bool) {
     text(word);
     if is_set {
         text(b" 1");
@@ -58,7 +58,7 @@ pub fn flag(word: &[u8], is_set: bool) {
 }
 
 // A word, where it applies.
-pub fn word_if(word: &[u8], applies: bool) {
+pub(crate) fn word_if(word: &[u8], applies: bool) {
     if applies {
         text(word);
     }
@@ -71,7 +71,7 @@ fn pair(b: u8) {
 }
 
 // Each byte as a space and two hex digits.
-pub fn pairs(bytes: &[u8]) {
+pub(crate) fn pairs(bytes: &[u8]) {
     let mut i = 0;
     while i < bytes.len() {
         pair(bytes[i]);

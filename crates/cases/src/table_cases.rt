@@ -101,28 +101,6 @@ fn show_units(t: Table) {
     }
 }
 
-// Whether a record is all zero.
-fn no_task(a: Task) -> bool {
-    if a.arrival != 0 {
-        return false;
-    }
-    if a.tag != 0 {
-        return false;
-    }
-    if a.path != 0 {
-        return false;
-    }
-    if a.unit != 0 {
-        return false;
-    }
-    let kind = a.kind;
-    if task::kind_number(kind) != 0 {
-        return false;
-    }
-    let phase = a.phase;
-    task::phase_number(phase) == 0
-}
-
 fn kind_word(k: Kind) {
     match k {
         Kind::Aca => text(b" aca"),
@@ -157,7 +135,7 @@ fn show_task(live: u64, i: usize, a: Task) {
     if is_live(live, i) {
         text(b"; task ");
     } else {
-        if no_task(a) {
+        if table::sound::is_no_task(a) {
             return;
         }
         text(b"; dead ");
@@ -175,7 +153,7 @@ fn show_tasks(t: Table) {
 }
 
 // The table: all of it that is not zero.
-pub fn show(t: Table) {
+pub(crate) fn show(t: Table) {
     word_if(b"not ", !t.sound());
     counted(b"sound next ", t.next);
     counted(b" count ", t.count as u64);
@@ -402,7 +380,7 @@ fn set(t: Table, field: u8, i: usize, value: u8) -> Table {
 }
 
 // Letter !: a field set, from its number, the place and the value.
-pub fn poke(t: Table, c: &[u8]) -> Table {
+pub(crate) fn poke(t: Table, c: &[u8]) -> Table {
     if !has(c, 3) {
         return t;
     }

@@ -5,7 +5,7 @@ use mathlib.Core.Bool.{Bool, true, false, cond}
 use mathlib.Core.List.{List}
 use mathlib.Core.Logic.{inl, inr}
 use lib.ListN.{length}
-use lib.Dec.{eqb, ltb}
+use lib.Dec.{ltb}
 use borrow.Author.Tests.{le-ltb, ltb-true, eqb-true}
 use Rattle.wire.specs.Paper
 use Rattle.wire.specs.Messages.{readOf, reservedSet}
@@ -13,7 +13,7 @@ use Rattle.wire.specs.declared.message.Message.the-variants as message
 use Rattle.task.specs.Selections.{picks, named}
 use Rattle.task.specs.declared.Task.{Task}
 use Rattle.task.specs.declared.select.Selection.{Selection}
-use Rattle.task.proofs.Ways.{either-way, never, cond-ind, both}
+use Rattle.task.proofs.Ways.{either-way, never, both}
 use Rattle.task.proofs.Places.{first-ext}
 use Rattle.task.proofs.Selecting.{picks-named}
 use Rattle.table.specs.Tables.{placeOf, pathOf, anyLive}
@@ -23,15 +23,14 @@ use Rattle.table.proofs.Views.{some-any, any-some}
 use Rattle.table.proofs.Exact.{check-is-exact}
 use Rattle.rules.specs.Rules.{factsOf}
 use Rattle.rules.specs.Management.{orderCode}
-use Rattle.rules.specs.declared.rules.Facts.{Facts}
-use Rattle.rules.specs.declared.manage.Order.{Order}
 use Rattle.rules.specs.declared.manage.Order.the-variants as order
-use Rattle.plan.specs.Plans.{unitAsked, clearsSet, orderPlan}
+use Rattle.plan.specs.Plans.{unitAsked, clearsSet}
 use Rattle.plan.specs.declared.What.{What}
 use Rattle.plan.specs.declared.What.the-variants.{Manage}
 use Rattle.plan.specs.declared.Plan.{Plan}
 use Rattle.plan.specs.declared.Answer.{Answer}
 use Rattle.plan.specs.declared.Answer.the-variants as answer
+use Rattle.plan.proofs.Promises.{order-answer}
 use Rattle.engine.specs.Calls.{heardOf, planAt, planFor, carried, replyPath, answeredTo, messageOf, replied}
 use Rattle.engine.specs.Promises.{Live, Agree, AbortDependsOnly}
 use Rattle.engine.specs.declared.Outcome.{Outcome}
@@ -76,12 +75,6 @@ response m tag taken = answer.Response tag (cond (reservedSet m) Paper.invalidFi
 
 abbrev abortAnswer : List ℕ → ℕ → ℕ → Bool → Answer
 abortAnswer m tag p taken = cond (ltb p 8) (response m tag taken) (answer.Refused Paper.unknownPath)
-
--- carried out or not, an order's answer is the same
-order-answer : (f : Facts) (p tag : ℕ) (m : List ℕ) (o : Order) → orderPlan f p tag m o .answer ≡ answer.Response tag (orderCode f m o)
-unfolding orderPlan
-order-answer f p tag m o =
-    cond-ind (λ (pl : Plan). pl .answer ≡ answer.Response tag (orderCode f m o)) (eqb (orderCode f m o .0) (Paper.done .0)) (λ _. refl) (λ _. refl)
 
 module _ (t : Table) (m : List ℕ) (path tag tag2 : ℕ) where
   abbrev abort : What

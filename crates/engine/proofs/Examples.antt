@@ -16,20 +16,37 @@ use Rattle.rules.specs.Rules.{factsOf, resumesUnmarked, missesResume, barred, s
 use Rattle.rules.specs.Management.{orderCode}
 use Rattle.plan.specs.Plans.{orderPlan}
 use Rattle.engine.specs.Calls.{heardOf, planAt, planFor, acted, carriedOut, answeredTo, messageOf, choiceOn, startOf, finishOf, setupOf, replied}
-use Rattle.engine.specs.Examples.{quiet, tasksFrom, full, examples, shared, orders, ExamplesHold, ExampleBytes, WorkedCalls, OrdersEnd}
+use Rattle.engine.specs.Examples.{quiet, tasksFrom, full, examples, shared, orders, ExamplesHold, WorkedCalls, OrdersEnd}
+
+-- the definitions that these are computed by: of messages and replies, of tasks and tables, of rules, orders and plans, of the calls and the examples
+unfoldable bytes : Unit {0}
+unfolding placeOf fieldsOf readOf commandReserved reservedSet cutShort noBlock linked writableOf bytesOf leftOf
+bytes = tt
+
+unfoldable tables : Unit {0}
+unfolding first some all mapOf mapAt lowestFree withBit picks considered scanFrom zeroTable pathPlace anyLive pickOf hasRoom accepted endedBy started markedIn attendedIn alarmedIn losersOf acaClearedIn finished badList freshPaths pathsOf freshTable setupTable countOk pathsDistinct unusedZero recordsOk unitsOk clashes soundOf
+tables = tt
+
+unfoldable answers : Unit {0}
+unfolding firstThat factsOf resumesUnmarked missesResume barred stray passesAttention resetPending clearedPending roomRules fieldRules unitRules blockRules commandRules orderCode orderPlan
+answers = tt
+
+unfoldable calls : Unit {0}
+unfolding heardOf planAt planFor acted carriedOut answeredTo messageOf choiceOn startOf finishOf setupOf replied quiet tasksFrom full examples shared orders
+calls = tt
+
+unfoldable computing : Unit {0}
+unfolding bytes tables answers calls
+computing = tt
 
 pub examples-hold : ExamplesHold
-unfolding placeOf fieldsOf readOf commandReserved reservedSet cutShort noBlock linked first some all mapOf mapAt lowestFree withBit picks pathPlace anyLive hasRoom accepted endedBy markedIn attendedIn alarmedIn losersOf acaClearedIn countOk pathsDistinct unusedZero recordsOk unitsOk clashes soundOf firstThat factsOf resumesUnmarked missesResume barred stray passesAttention resetPending clearedPending roomRules fieldRules unitRules blockRules commandRules orderCode orderPlan heardOf planAt planFor acted carriedOut answeredTo messageOf quiet tasksFrom full examples
+unfolding computing
 examples-hold = refl
 
-pub example-bytes : ExampleBytes
-unfolding placeOf fieldsOf readOf commandReserved reservedSet cutShort noBlock linked writableOf bytesOf leftOf first some all mapOf mapAt lowestFree withBit picks pathPlace anyLive hasRoom markedIn countOk pathsDistinct unusedZero recordsOk unitsOk clashes soundOf firstThat factsOf resumesUnmarked missesResume barred stray passesAttention resetPending clearedPending roomRules fieldRules unitRules blockRules commandRules heardOf planAt planFor acted carriedOut answeredTo messageOf replied quiet
-example-bytes = refl
-
 pub worked-calls : WorkedCalls
-unfolding placeOf fieldsOf readOf commandReserved reservedSet cutShort noBlock linked first some all mapOf mapAt lowestFree withBit picks considered scanFrom zeroTable pathPlace anyLive pickOf hasRoom accepted endedBy started markedIn attendedIn finished badList freshPaths pathsOf freshTable setupTable countOk pathsDistinct unusedZero recordsOk unitsOk clashes soundOf firstThat factsOf resumesUnmarked missesResume barred stray passesAttention resetPending clearedPending roomRules fieldRules unitRules blockRules commandRules heardOf planAt planFor acted carriedOut answeredTo messageOf choiceOn startOf finishOf setupOf
+unfolding computing
 worked-calls = refl
 
 pub orders-end : OrdersEnd
-unfolding placeOf fieldsOf readOf reservedSet first some all mapOf lowestFree withBit picks pathPlace anyLive hasRoom accepted endedBy countOk pathsDistinct unusedZero recordsOk unitsOk clashes soundOf factsOf orderCode orderPlan heardOf planAt planFor acted carriedOut answeredTo messageOf quiet shared orders
+unfolding computing
 orders-end = refl

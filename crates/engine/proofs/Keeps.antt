@@ -8,6 +8,7 @@ use lib.Dec.{eqb}
 use borrow.Author.Tests.{not-false, ltb-true, eq-eqb, eqb-true}
 use Rattle.wire.specs.Paper
 use Rattle.wire.specs.Messages.{reservedSet}
+use Rattle.wire.specs.Block.{cutShort, noBlock}
 use Rattle.wire.specs.declared.codes.Queue.{Queue}
 use Rattle.wire.specs.declared.message.Flags.{Flags}
 use Rattle.task.specs.Tasks.{isAca}
@@ -35,7 +36,7 @@ use Rattle.rules.specs.declared.rules.Ruling.{Ruling}
 use Rattle.rules.specs.declared.rules.Ruling.the-variants.{Refuse, Respond, Report, Accept}
 use Rattle.rules.specs.declared.manage.Order.{Order}
 use Rattle.rules.specs.declared.manage.Order.the-variants.{AbortTask, AbortTaskSet, ClearTaskSet, ClearAca, UnitReset, TargetReset}
-use Rattle.rules.proofs.Entries.{noneAccepts, appliesAt, passed}
+use Rattle.rules.proofs.Entries.{everyGives, appliesAt, passed}
 use Rattle.plan.specs.Plans.{kindOf, ruled, orderPlan, inMood}
 use Rattle.plan.specs.declared.What.{What}
 use Rattle.plan.specs.declared.What.the-variants.{Command, Manage}
@@ -78,19 +79,23 @@ owner-alone f g = cases (f .aca) (f .owned) (asksAca g) (f .busy)
     cases true true true true a b s = absurd (never refl b)
     cases true true true false a b s = (refl, refl)
 
--- the rules by their places in the list: 2 is rule 1's room, 6 is rule 5, 7 is rule 6, 8 and 9 are rule 7
+-- the rules by their places in the list: 2 is rule 1's room, 3 is rule 2, 6 is rule 5, 7 is rule 6, 8 and 9 are rule 7, 12 is rule 9
 module _ (t : Table) (p tag lun : ℕ) (flags : Flags) (m : List ℕ) where
   abbrev pub facts : Facts
   facts = factsOf t p tag lun false
 
   module _ (e : deciding facts flags m .gives ≡ Accept) where
     none-applied : (k : ℕ) → appliesAt (commandRules facts flags m) k ≡ false
-    unfolding commandRules roomRules fieldRules unitRules blockRules noneAccepts
+    unfolding commandRules roomRules fieldRules unitRules blockRules everyGives
     none-applied = passed (commandRules facts flags m) (accepts m) refl e
 
     pub accept-has-room : hasRoom t ≡ true
     unfolding commandRules roomRules factsOf
     accept-has-room = not-false _ (none-applied 2)
+
+    pub accept-is-whole : (cutShort m ≡ false) × (noBlock m ≡ false)
+    unfolding commandRules roomRules fieldRules unitRules blockRules
+    accept-is-whole = (none-applied 3, none-applied 12)
 
     may-come : p < t .count → MayCome t p tag lun (kindOf (flags .queue))
     unfolding commandRules roomRules fieldRules unitRules blockRules factsOf

@@ -1,7 +1,9 @@
 -- The theorems about the calls; how a call's outcome comes about; the cases of the functions.
 pub mod Examples
 pub mod Drives
+pub mod Unique
 pub mod Promises
+pub mod Replies
 pub mod Keeps
 pub mod Abort
 pub mod Outcomes

@@ -1,10 +1,10 @@
 -- What holds at each way out of a call's definition holds of its outcome. Assumes nothing.
-use Prim.Native.Nat.{ℕ, _<_}
+use Prim.Native.Nat.{ℕ, _<_, _≤_}
 use mathlib.Core.Path.{_≡_, refl}
 use mathlib.Core.Bool.{true, false, not}
 use mathlib.Core.List.{List}
 use lib.Dec.{eqb, ltb}
-use borrow.Author.Tests.{not-false, ltb-true}
+use borrow.Author.Tests.{not-false, ltb-true, ltb-false}
 use Rattle.wire.specs.Paper
 use Rattle.wire.specs.Messages.{readOf}
 use Rattle.wire.specs.declared.codes.Refusal.{Refusal}
@@ -26,21 +26,28 @@ use Rattle.engine.specs.declared.Outcome.{Outcome}
 
 module _ (P : Outcome → Type 0) (t : Table) (stops : (n : Refusal) → P (refused t n)) where
   -- a message: refused, or the plan for what a listed path asks is carried out
-  module _ (m : List ℕ) (goes : (path tag : ℕ) (w : What) → askedOf (readOf m) ≡ By path tag w → pathOf t path < 8 → P (carried t path (planAt t m (pathOf t path) tag w))) where
+  module _ (m : List ℕ) where
+    abbrev pub Carried : Type 0
+    Carried = (path tag : ℕ) (w : What) → askedOf (readOf m) ≡ By path tag w → pathOf t path < 8 → P (carried t path (planAt t m (pathOf t path) tag w))
+
     abbrev Answered : Asked → Type 0
     Answered a = P (answeredTo t m a)
 
-    asked : (a : Asked) → askedOf (readOf m) ≡ a → Answered a
+    asked : Carried → (a : Asked) → askedOf (readOf m) ≡ a → Answered a
     unfolding answeredTo planFor carriedOut acted
-    asked (Unread n) e = stops n
-    asked (By path tag w) e =
+    asked goes (Unread n) e = stops n
+    asked goes (By path tag w) e =
         cond-ind (λ (pl : Plan). P (carried t path pl)) (ltb (pathOf t path) 8) (λ l. goes path tag w e (ltb-true _ 8 l)) (λ _. stops Paper.unknownPath)
 
-    pub each-message : (n : ℕ) → P (messageOf t m n)
+    -- where the reply buffer has room
+    pub each-heard : (n : ℕ) → (Paper.replyRoom ≤ n → Carried) → P (messageOf t m n)
     unfolding messageOf heardOf answeredTo
-    each-message n =
+    each-heard n goes =
         cond-ind Answered (not (soundOf t)) (λ _. stops _)
-        (λ _. cond-ind Answered (ltb n Paper.replyRoom) (λ _. stops _) (λ _. asked (askedOf (readOf m)) refl))
+        (λ _. cond-ind Answered (ltb n Paper.replyRoom) (λ _. stops _) (λ l. asked (goes (ltb-false n _ l)) (askedOf (readOf m)) refl))
+
+    pub each-message : Carried → (n : ℕ) → P (messageOf t m n)
+    each-message goes n = each-heard n (λ _. goes)
 
   pub each-start : (unit : ℕ)
       → (isAttached t unit ≡ true → anyLive t (runningOn unit) ≡ false → choiceOn t unit .found ≡ true
@@ -53,17 +60,22 @@ module _ (P : Outcome → Type 0) (t : Table) (stops : (n : Refusal) → P (refu
       (λ a. cond-ind P (anyLive t (runningOn unit)) (λ _. stops _)
       (λ r. cond-ind P (not (choiceOn t unit .found)) (λ _. stops _) (λ f. goes (not-false _ a) r (not-false _ f)))))
 
-  pub each-finish : (arrival : ℕ) (status : StatusByte) (s : Sense) (n : ℕ)
-      → (pickOf t (runningAs arrival) .found ≡ true
-      → P (out (finished t (runningTask t arrival) (eqb (status .0) (Paper.checkCondition .0)))
-      (answer.Status (runningTask t arrival .tag) status (sentSense status s)) (pathAt t (runningTask t arrival .path) .id)))
-      → P (finishOf t arrival status s n)
-  unfolding finishOf
-  each-finish arrival status s n goes =
-      cond-ind P (not (soundOf t)) (λ _. stops _)
-      (λ _. cond-ind P (ltb n Paper.replyRoom) (λ _. stops _)
-      (λ _. cond-ind P (not (mayFinish status s)) (λ _. stops _)
-      (λ _. cond-ind P (not (pickOf t (runningAs arrival) .found)) (λ _. stops _) (λ f. goes (not-false _ f)))))
+  module _ (arrival : ℕ) (status : StatusByte) (s : Sense) (n : ℕ) where
+    abbrev pub Ended : Type 0
+    Ended = P (out (finished t (runningTask t arrival) (eqb (status .0) (Paper.checkCondition .0)))
+        (answer.Status (runningTask t arrival .tag) status (sentSense status s)) (pathAt t (runningTask t arrival .path) .id))
+
+    -- where the reply buffer has room, and the device's status and sense key may be sent
+    pub each-sent : (Paper.replyRoom ≤ n → mayFinish status s ≡ true → pickOf t (runningAs arrival) .found ≡ true → Ended) → P (finishOf t arrival status s n)
+    unfolding finishOf
+    each-sent goes =
+        cond-ind P (not (soundOf t)) (λ _. stops _)
+        (λ _. cond-ind P (ltb n Paper.replyRoom) (λ _. stops _)
+        (λ l. cond-ind P (not (mayFinish status s)) (λ _. stops _)
+        (λ m. cond-ind P (not (pickOf t (runningAs arrival) .found)) (λ _. stops _) (λ f. goes (ltb-false n _ l) (not-false _ m) (not-false _ f)))))
+
+    pub each-finish : (pickOf t (runningAs arrival) .found ≡ true → Ended) → P (finishOf t arrival status s n)
+    each-finish goes = each-sent (λ _ _. goes)
 
   pub each-reset : P (out (resetOf t) answer.Reset 0) → P (totalResetOf t)
   unfolding totalResetOf

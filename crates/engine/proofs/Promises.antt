@@ -1,51 +1,56 @@
--- Two outcomes that satisfy a call's contract are equal, and a numbered refusal changes nothing. Keeps.antt has that tables stay sound, Abort.antt what ABORT TASK depends on. Assumes nothing.
-use Prim.Native.Nat.{ℕ}
+-- A numbered refusal changes nothing; what an accepted command and a start come to. Replies.antt has that replies are written, Keeps.antt that tables stay sound, Abort.antt what ABORT TASK depends on. Assumes nothing.
+use Prim.Native.Nat.{ℕ, _+_, _≤_}
 use mathlib.Core.Path.{_≡_, refl, sym, ap, _∙_}
-use mathlib.Core.Bool.{Bool, true, false, cond}
+use mathlib.Core.Bool.{Bool, true, false, cond, _||_}
 use mathlib.Core.List.{List}
 use native.Mathlib.Omega.{arith}
-use lib.ListN.{length}
-use lib.Dec.{eqb}
+use lib.ListN.{length, drop, length-drop}
+use lib.Seq.{length-take-le}
+use lib.Dec.{ltb}
+use borrow.Author.Tests.{ltb-false}
 use Rattle.wire.specs.Paper
+use Rattle.wire.specs.Block.{blockLength, cutShort, noBlock, blockOf}
 use Rattle.wire.specs.declared.codes.Refusal.{Refusal}
 use Rattle.wire.specs.declared.message.Flags.{Flags}
-use Rattle.task.proofs.Ways.{cond-ind}
-use Rattle.task.proofs.Promises.{determined}
-use Rattle.table.specs.Tables.{zeroTable}
+use Rattle.task.proofs.Ways.{never}
+use Rattle.task.proofs.Next.{scan-is-next}
+use Rattle.table.specs.Tables.{zeroTable, pathOf, pickOf}
 use Rattle.table.specs.Setup.{badList, setupTable}
 use Rattle.table.specs.declared.Table.{Table}
 use Rattle.rules.specs.Rules.{deciding}
-use Rattle.rules.specs.Management.{orderCode}
 use Rattle.rules.specs.declared.rules.Facts.{Facts}
 use Rattle.rules.specs.declared.rules.Ruling.{Ruling}
 use Rattle.rules.specs.declared.rules.Ruling.the-variants.{Refuse, Respond, Report, Accept}
-use Rattle.plan.specs.Plans.{ruled, orderPlan, planOf}
+use Rattle.plan.specs.Plans.{ruled, planOf}
 use Rattle.plan.specs.declared.What.{What}
 use Rattle.plan.specs.declared.What.the-variants.{Command, Manage}
 use Rattle.plan.specs.declared.Plan.{Plan}
 use Rattle.plan.specs.declared.Answer.{Answer}
 use Rattle.plan.specs.declared.Answer.the-variants as answer
-use Rattle.engine.specs.Calls.{planAt, acted, carriedOut, setupOf, replied, Answers}
-use Rattle.engine.specs.Promises.{AnswersUnique, OutcomeUnique, BlockUnique, MessageRefusals, FinishRefusals, StartRefusals, ResetRefusals, SetupRefusals}
+use Rattle.plan.proofs.Promises.{order-answer}
+use Rattle.engine.specs.Calls.{planAt, acted, carriedOut, messageOf, mayGo, choiceOn, setupOf, replied, Answers, handedOver}
+use Rattle.engine.specs.Promises.{MessageRefusals, FinishRefusals, StartRefusals, ResetRefusals, SetupRefusals, AcceptedIsWhole, Goes, StartsNext}
 use Rattle.engine.specs.declared.Outcome.{Outcome}
 use Rattle.engine.proofs.Outcomes.{each-message, each-start, each-finish, each-reset}
-
--- ---- uniqueness
-
-pub answers-unique : AnswersUnique
-answers-unique defined buf o p k l x y = (determined (x .outcome) (y .outcome), determined (x .buffer) (y .buffer))
-
-pub outcome-unique : OutcomeUnique
-outcome-unique defined o p = determined
-
-pub block-unique : BlockUnique
-block-unique m a k l = determined
+use Rattle.engine.proofs.Keeps.{accept-is-whole}
 
 -- ---- refusals
 
--- an answer is a refusal only where the table stays
+abbrev isRefusal : Answer → Bool
+isRefusal answer.Ready = false
+isRefusal (answer.Accepted n) = false
+isRefusal (answer.Response tag code) = false
+isRefusal (answer.Status tag status sense) = false
+isRefusal (answer.Started n) = false
+isRefusal answer.Reset = false
+isRefusal (answer.Refused n) = true
+
+-- an answer is a refusal only where the table is t
 abbrev Stays : Table → Answer → Table → Type 0
 Stays t a u = (n : Refusal) → a ≡ answer.Refused n → u ≡ t
+
+no-refusal : {t u : Table} {a : Answer} → isRefusal a ≡ false → Stays t a u
+no-refusal h n e = absurd (never (ap isRefusal e) h)
 
 abbrev Kept : Table → Outcome → Type 0
 Kept t o = Stays t (o .answer) (o .table)
@@ -55,47 +60,100 @@ PlanKept t pl = Stays t (pl .answer) (carriedOut t pl)
 
 ruling-kept : (t : Table) (next p tag lun : ℕ) (flags : Flags) (r : Ruling) → PlanKept t (ruled next p tag lun flags r)
 unfolding carriedOut acted
-ruling-kept t next p tag lun flags (Refuse k) n e = refl
-ruling-kept t next p tag lun flags (Respond code mood) n e = let z : _≡_ {A = ℕ} 0 1 = cc in absurd (omega arith)
-ruling-kept t next p tag lun flags (Report status sense mood) n e = let z : _≡_ {A = ℕ} 0 1 = cc in absurd (omega arith)
-ruling-kept t next p tag lun flags Accept n e = let z : _≡_ {A = ℕ} 0 1 = cc in absurd (omega arith)
+ruling-kept t next p tag lun flags (Refuse k) = λ _ _. refl
+ruling-kept t next p tag lun flags (Respond code mood) = no-refusal refl
+ruling-kept t next p tag lun flags (Report status sense mood) = no-refusal refl
+ruling-kept t next p tag lun flags Accept = no-refusal refl
 
 plan-kept : (t : Table) (f : Facts) (next p tag : ℕ) (m : List ℕ) (w : What) → PlanKept t (planOf f next p tag m w)
-unfolding orderPlan
 plan-kept t f next p tag m (Command lun flags) = ruling-kept t next p tag lun flags (deciding f flags m .gives)
-plan-kept t f next p tag m (Manage o) =
-    cond-ind (PlanKept t) (eqb (orderCode f m o .0) (Paper.done .0)) (λ _ n e. let z : _≡_ {A = ℕ} 0 1 = cc in absurd (omega arith))
-    (λ _ n e. let z : _≡_ {A = ℕ} 0 1 = cc in absurd (omega arith))
+plan-kept t f next p tag m (Manage o) = no-refusal (ap isRefusal (order-answer f p tag m o))
 
--- the contract of a call with a buffer, where the outcome that it defines is kept
-buffered : (t : Table) (defined : Outcome) (buf : List ℕ) (o : Outcome) (left : List ℕ) (n : Refusal)
+-- an outcome that meets a contract, where the outcome that it defines is kept
+as-defined : {t : Table} {defined o : Outcome} → Kept t defined → o ≡ defined → Kept t o
+as-defined kept e = rw e kept
+
+with-reply : {t : Table} {defined : Outcome} (buf : List ℕ) {o : Outcome} {left : List ℕ} (n : Refusal)
     → Kept t defined → Answers defined buf o left → o .answer ≡ answer.Refused n → (o .table ≡ t) × (left ≡ buf)
 unfolding replied
-buffered t defined buf o left n kept x e =
-    let f : defined .answer ≡ answer.Refused n = sym (ap (λ (q : Outcome). q .answer) (x .outcome)) ∙ e in
-    (ap (λ (q : Outcome). q .table) (x .outcome) ∙ kept n f, x .buffer ∙ ap (λ (a : Answer). replied a buf) f)
+with-reply buf n kept x e = (
+  as-defined kept (x .outcome) n e,
+  x .buffer ∙ ap (λ (a : Answer). replied a buf) (sym (ap (λ (q : Outcome). q .answer) (x .outcome)) ∙ e),
+)
 
 pub message-refusals : MessageRefusals
 unfolding planAt
 message-refusals t m buf o left n =
-    buffered t _ buf o left n (each-message (Kept t) t (λ _ _ _. refl) m (λ path tag w _ _. plan-kept t _ _ _ tag m w) (length buf))
+    with-reply buf n (each-message (Kept t) t (λ _ _ _. refl) m (λ path tag w _ _. plan-kept t _ _ _ tag m w) (length buf))
 
 pub finish-refusals : FinishRefusals
 finish-refusals t arrival status s buf o left n =
-    buffered t _ buf o left n
-    (each-finish (Kept t) t (λ _ _ _. refl) arrival status s (length buf) (λ _ k e. let z : _≡_ {A = ℕ} 0 1 = cc in absurd (omega arith)))
+    with-reply buf n (each-finish (Kept t) t (λ _ _ _. refl) arrival status s (length buf) (λ _. no-refusal refl))
 
 pub start-refusals : StartRefusals
-start-refusals t unit =
-    each-start (Kept t) t (λ _ _ _. refl) unit (λ _ _ _ k e. let z : _≡_ {A = ℕ} 0 1 = cc in absurd (omega arith))
+start-refusals t unit o n e = as-defined (each-start (Kept t) t (λ _ _ _. refl) unit (λ _ _ _. no-refusal refl)) e n
 
 pub reset-refusals : ResetRefusals
-reset-refusals t = each-reset (Kept t) t (λ _ _ _. refl) (λ k e. let z : _≡_ {A = ℕ} 0 1 = cc in absurd (omega arith))
+reset-refusals t o n e = as-defined (each-reset (Kept t) t (λ _ _ _. refl) (no-refusal refl)) e n
 
 pub setup-refusals : SetupRefusals
 unfolding setupOf setupTable
-setup-refusals ids attached first n = zero (badList ids) _
+setup-refusals ids attached first o n e = as-defined (zero (badList ids) _) e n
   where
-    zero : (b : Bool) (u : Table) → cond b (answer.Refused Paper.badPaths) answer.Ready ≡ answer.Refused n → cond b zeroTable u ≡ zeroTable
-    zero true u e = refl
-    zero false u e = let z : _≡_ {A = ℕ} 0 1 = cc in absurd (omega arith)
+    zero : (b : Bool) (u : Table) → Stays zeroTable (cond b (answer.Refused Paper.badPaths) answer.Ready) (cond b zeroTable u)
+    zero true u = λ _ _. refl
+    zero false u = no-refusal refl
+
+-- ---- an accepted command
+
+accepts-only : (next p tag lun arrival : ℕ) (flags : Flags) (r : Ruling) → ruled next p tag lun flags r .answer ≡ answer.Accepted arrival → r ≡ Accept
+accepts-only next p tag lun arrival flags (Refuse n) e = let z : _≡_ {A = ℕ} 0 1 = cc in absurd (omega arith)
+accepts-only next p tag lun arrival flags (Respond code mood) e = let z : _≡_ {A = ℕ} 0 1 = cc in absurd (omega arith)
+accepts-only next p tag lun arrival flags (Report status sense mood) e = let z : _≡_ {A = ℕ} 0 1 = cc in absurd (omega arith)
+accepts-only next p tag lun arrival flags Accept e = refl
+
+abbrev Whole : List ℕ → Type 0
+Whole m = (cutShort m ≡ false) × (noBlock m ≡ false)
+
+message-whole : (t : Table) (m : List ℕ) (n arrival : ℕ) → messageOf t m n .answer ≡ answer.Accepted arrival → Whole m
+unfolding planAt
+message-whole t m n arrival =
+    each-message (λ (o : Outcome). o .answer ≡ answer.Accepted arrival → Whole m) t (λ k e. let z : _≡_ {A = ℕ} 0 1 = cc in absurd (omega arith)) m
+    (λ path tag w _ _. asked (pathOf t path) tag w) n
+  where
+    asked : (p tag : ℕ) (w : What) → planAt t m p tag w .answer ≡ answer.Accepted arrival → Whole m
+    asked p tag (Command lun flags) e = accept-is-whole t p tag lun flags m (accepts-only (t .next) p tag lun arrival flags _ e)
+    asked p tag (Manage o) e =
+        let a : answer.Response tag _ ≡ answer.Accepted arrival = sym (order-answer _ p tag m o) ∙ e in
+        let z : _≡_ {A = ℕ} 0 1 = cc in absurd (omega arith)
+
+long-enough : (m : List ℕ) → cutShort m ≡ false → 16 + blockLength m ≤ length m
+unfolding cutShort
+long-enough m e = ltb-false _ _ (second (ltb (length m) 17) _ e)
+  where
+    second : (b c : Bool) → (b || c) ≡ false → c ≡ false
+    second true c h = absurd (never refl h)
+    second false c h = h
+
+whole-length : (m : List ℕ) → cutShort m ≡ false → length (blockOf m) ≡ blockLength m
+unfolding blockOf
+whole-length m e =
+    let l = long-enough m e in
+    let k : blockLength m ≤ length (drop 16 m) = rw (length-drop 16 m) (omega arith) in
+    rw e (length-take-le _ _ k)
+
+pub accepted-is-whole : AcceptedIsWhole
+unfolding handedOver
+accepted-is-whole t m buf o left arrival x e =
+    let w = message-whole t m (length buf) arrival (sym (ap (λ (q : Outcome). q .answer) (x .outcome)) ∙ e) in
+    (w .0, w .1, rw e (whole-length m (w .0)))
+
+-- ---- a start
+
+pub starts-next : StartsNext
+unfolding choiceOn pickOf
+starts-next t unit arrival o e h =
+    rw e (each-start (λ (o : Outcome). o .answer ≡ answer.Started arrival → Goes t unit arrival (o .table)) t
+    (λ k x. let z : _≡_ {A = ℕ} 0 1 = cc in absurd (omega arith)) unit
+    (λ _ _ found x. record { pick = choiceOn t unit; found = found; next = scan-is-next (t .live) (mayGo t unit) (t .tasks); answered = cc; runs = refl })
+    (rw e at h))

@@ -15,6 +15,7 @@ use Rattle.reply.specs.declared.Reply.the-variants as reply
 use Rattle.task.specs.Selections.{runningOn, waitingOn, acaWaitingOn, runningAs}
 use Rattle.task.specs.declared.Task.{Task}
 use Rattle.task.specs.declared.scan.Pick.{Pick}
+use Rattle.task.specs.declared.select.Selection.{Selection}
 use Rattle.table.specs.Tables.{pathOf, pathAt, unitAt, taskAt, isAttached, anyLive, pickOf, accepted, endedBy, started, finished, resetOf}
 use Rattle.table.specs.Setup.{badList, setupTable}
 use Rattle.table.specs.Sound.{soundOf}
@@ -96,8 +97,11 @@ unfoldable pub messageOf : Table → List ℕ → ℕ → Outcome
 messageOf t m n = answeredTo t m (heardOf (soundOf t) n m)
 
 -- start, for a unit with nothing running: 13, 6, 7, 8. Under ACA only the ACA task may go
+abbrev pub mayGo : Table → ℕ → Selection
+mayGo t unit = cond (hasAca (unitAt t unit .aca)) (acaWaitingOn unit) (waitingOn unit)
+
 unfoldable pub choiceOn : Table → ℕ → Pick
-choiceOn t unit = pickOf t (cond (hasAca (unitAt t unit .aca)) (acaWaitingOn unit) (waitingOn unit))
+choiceOn t unit = pickOf t (mayGo t unit)
 
 unfoldable pub startOf : Table → ℕ → Outcome
 startOf t unit =

@@ -8,6 +8,7 @@ use Rattle.table.specs.declared.Table.{Table}
 use Rattle.plan.specs.declared.Answer.{Answer}
 use Rattle.plan.specs.declared.Answer.the-variants as answer
 use Rattle.engine.specs.Calls.{messageOf, Answers}
+use Rattle.engine.specs.Examples.{quiet, full, plain, resumed, buffer}
 use Rattle.engine.specs.declared.Outcome.{Outcome}
 
 -- for a table, a message and a reply buffer: the outcome, and the buffer as it is left
@@ -15,8 +16,9 @@ pub record Drive : Type 0 where
   pub outcome : Table → List ℕ → List ℕ → Outcome
   pub left : Table → List ℕ → List ℕ → List ℕ
 
-abbrev pub Meets : Drive → Type 0
-Meets d = (t : Table) (m buf : List ℕ) → Answers (messageOf t m (length buf)) buf (d .outcome t m buf) (d .left t m buf)
+-- it meets demand 2 at a table and a message, with the buffer of the examples
+abbrev pub MeetsAt : Drive → Table → List ℕ → Type 0
+MeetsAt d t m = Answers (messageOf t m (length buffer)) buffer (d .outcome t m buffer) (d .left t m buffer)
 
 -- it refuses every message
 abbrev pub RefusesAll : Drive → Type 0
@@ -30,6 +32,9 @@ AnswersOne d a = (t : Table) (m buf : List ℕ) → d .outcome t m buf .answer �
 abbrev pub NeverTouches : Drive → Type 0
 NeverTouches d = (t : Table) (m buf : List ℕ) → d .outcome t m buf .table ≡ t
 
--- none of them meets demand 2: the first at example c, the second at e, the third at f
+-- none of them meets demand 2: the first not at example c, the second not at both c and e, the third not at f
 abbrev pub WrongDrives : Type 0
-WrongDrives = (d : Drive) → Meets d → (RefusesAll d → ⊥) × ((a : Answer) → AnswersOne d a → ⊥) × (NeverTouches d → ⊥)
+WrongDrives = (d : Drive)
+    → (MeetsAt d quiet plain → RefusesAll d → ⊥)
+    × (MeetsAt d quiet plain → MeetsAt d quiet resumed → (a : Answer) → AnswersOne d a → ⊥)
+    × (MeetsAt d full plain → NeverTouches d → ⊥)

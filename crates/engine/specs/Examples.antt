@@ -6,6 +6,7 @@ use mathlib.Core.Bool.{false}
 use mathlib.Core.List.{List, [], _∷_, map}
 use lib.ListN.{replicate}
 use Rattle.wire.specs.Paper
+use Rattle.reply.specs.Calls.{placed}
 use Rattle.task.specs.Tasks.{noTask}
 use Rattle.task.specs.declared.Task.{Task}
 use Rattle.task.specs.declared.Kind.the-variants.{Aca, Simple}
@@ -50,54 +51,89 @@ command path lun flags spare cdb =
 abbrev pub zeros : List ℕ
 zeros = replicate 6 0
 
+-- the command with nothing else said, and the same with RESUME
+abbrev pub plain : List ℕ
+plain = command 1 0 3 0 zeros
+
+abbrev pub resumed : List ℕ
+resumed = command 1 0 0x23 0 zeros
+
 abbrev pub unitReset : List ℕ → List ℕ
 unitReset lun = 0x83 ∷ 0x35 ∷ 0 ∷ 5 ∷ 0 ∷ 0 ∷ 0 ∷ 1 ∷ lun
 
+-- what a message is answered, and the bytes of the reply, none where the answer is no reply
 pub record Example : Type 0 where
   pub table : Table
   pub message : List ℕ
   pub answer : Answer
+  pub reply : List ℕ
 
-abbrev pub given : Table → List ℕ → Answer → Example
-given t m a = record { table = t; message = m; answer = a }
+abbrev pub refused : Table → List ℕ → ℕ → Example
+refused t m n = record { table = t; message = m; answer = Refused (Paper.refusal n); reply = [] }
+
+abbrev pub accept : Table → List ℕ → ℕ → Example
+accept t m arrival = record { table = t; message = m; answer = Accepted arrival; reply = [] }
+
+-- RESPONSE to tag 0005h
+abbrev pub response : Table → List ℕ → ℕ → Example
+response t m code = record { table = t; message = m; answer = Response 5 (Paper.returnCode code); reply = 0x83 ∷ 0x03 ∷ 0x00 ∷ 0x05 ∷ code ∷ [] }
+
+-- STATUS to tag 0005h: without sense, and 02h with sense key and code
+abbrev pub status : Table → List ℕ → ℕ → Example
+status t m byte = record {
+  table = t;
+  message = m;
+  answer = Status 5 (Paper.statusByte byte) Paper.noSense;
+  reply = 0x83 ∷ 0x11 ∷ 0x00 ∷ 0x05 ∷ byte ∷ replicate 21 0;
+}
+
+abbrev pub check : Table → List ℕ → ℕ → ℕ → Example
+check t m key code = record {
+  table = t;
+  message = m;
+  answer = Status 5 (Paper.statusByte 0x02) (Paper.sense key code 0x00);
+  reply = 0x83 ∷ 0x11 ∷ 0x00 ∷ 0x05 ∷ 0x02 ∷ 0 ∷ 0 ∷ 0 ∷ 0x70 ∷ 0 ∷ key ∷ 0 ∷ 0 ∷ 0 ∷ 0 ∷ 0x0a ∷ 0 ∷ 0 ∷ 0 ∷ 0 ∷ code ∷ 0 ∷ 0 ∷ 0 ∷ 0 ∷ 0 ∷ [];
+}
 
 -- the full table, after its command was answered
 abbrev pub again : Table
-again = messageOf full (command 1 0 3 0 zeros) 64 .table
+again = messageOf full plain 64 .table
 
 unfoldable pub examples : List Example
 examples =
-    given quiet [] (Refused (Paper.refusal 1))  -- a
-    ∷ given quiet (0x83 ∷ []) (Refused (Paper.refusal 1))
-    ∷ given quiet (0x84 ∷ 0x10 ∷ []) (Refused (Paper.refusal 2))  -- b
-    ∷ given quiet (command 1 0 3 0 (replicate 5 0)) (Refused (Paper.refusal 1))  -- c
-    ∷ given quiet (command 1 0 3 0 zeros) (Accepted 1)
-    ∷ given quiet (command 9 0 3 0 zeros) (Refused (Paper.refusal 3))  -- d
-    ∷ given quiet (command 1 0 0x23 0 zeros) (Response 5 (Paper.returnCode 0xff))  -- e
-    ∷ given full (command 1 0 3 0 zeros) (Status 5 (Paper.statusByte 0x28) Paper.noSense)  -- f
-    ∷ given again (command 1 0 3 0 zeros) (Refused (Paper.refusal 4))
-    ∷ given quiet (command 1 0 3 1 zeros) (Response 5 (Paper.returnCode 0xff))  -- g
-    ∷ given quiet (command 1 7 3 0 zeros) (Status 5 (Paper.statusByte 0x02) (Paper.sense 0x05 0x25 0x00))  -- h
-    ∷ given quiet (command 1 0 3 0 (0x60 ∷ [])) (Status 5 (Paper.statusByte 0x02) (Paper.sense 0x05 0x20 0x00))  -- i
-    ∷ given (accepted quiet 0 5 0 Simple) (command 1 0 3 0 zeros) (Response 5 (Paper.returnCode 0x04))  -- j
-    ∷ given (accepted quiet 1 5 0 Simple) (command 1 0 3 0 zeros) (Accepted 2)
-    ∷ given quiet (command 1 0 0 0 zeros) (Status 5 (Paper.statusByte 0x02) (Paper.sense 0x05 0x49 0x00))  -- k
-    ∷ given quiet (unitReset []) (Refused (Paper.refusal 1))  -- l
-    ∷ given quiet (unitReset (0 ∷ [])) (Response 5 (Paper.returnCode 0x00))
-    ∷ given quiet (unitReset (7 ∷ [])) (Response 5 (Paper.returnCode 0xff))
+    refused quiet [] 1  -- a
+    ∷ refused quiet (0x83 ∷ []) 1
+    ∷ refused quiet (0x84 ∷ 0x10 ∷ []) 2  -- b
+    ∷ refused quiet (command 1 0 3 0 (replicate 5 0)) 1  -- c
+    ∷ accept quiet plain 1
+    ∷ refused quiet (command 9 0 3 0 zeros) 3  -- d
+    ∷ response quiet resumed 0xff  -- e
+    ∷ status full plain 0x28  -- f
+    ∷ refused again plain 4
+    ∷ response quiet (command 1 0 3 1 zeros) 0xff  -- g
+    ∷ check quiet (command 1 7 3 0 zeros) 0x05 0x25  -- h
+    ∷ check quiet (command 1 0 3 0 (0x60 ∷ [])) 0x05 0x20  -- i
+    ∷ response (accepted quiet 0 5 0 Simple) plain 0x04  -- j
+    ∷ accept (accepted quiet 1 5 0 Simple) plain 2
+    ∷ check quiet (command 1 0 0 0 zeros) 0x05 0x49  -- k
+    ∷ refused quiet (unitReset []) 1  -- l
+    ∷ response quiet (unitReset (0 ∷ [])) 0x00
+    ∷ response quiet (unitReset (7 ∷ [])) 0xff
     ∷ []
 
--- each example is answered as page 01 says
-abbrev pub ExamplesHold : Type 0
-ExamplesHold = map (λ (e : Example). messageOf (e .table) (e .message) 64 .answer) examples ≡ map (λ (e : Example). e .answer) examples
-
--- example e byte for byte, in a buffer of 64 bytes AAh
+-- the reply buffer handed in: 64 bytes AAh
 abbrev pub buffer : List ℕ
 buffer = replicate 64 0xaa
 
-abbrev pub ExampleBytes : Type 0
-ExampleBytes =
-    replied (messageOf quiet (command 1 0 0x23 0 zeros) 64 .answer) buffer ≡ 0x83 ∷ 0x03 ∷ 0x00 ∷ 0x05 ∷ 0xff ∷ replicate 59 0xaa
+-- the answer to an example's message and the buffer as it is left; and as page 01 says them
+abbrev pub given : Example → Answer × List ℕ
+given e = (messageOf (e .table) (e .message) 64 .answer, replied (messageOf (e .table) (e .message) 64 .answer) buffer)
+
+abbrev pub said : Example → Answer × List ℕ
+said e = (e .answer, placed (e .reply) buffer)
+
+abbrev pub ExamplesHold : Type 0
+ExamplesHold = map given examples ≡ map said examples
 
 -- page 01's worked calls: setup, two commands, a start, a finish, a late finish; what the five events answer
 abbrev pub test : ℕ → List ℕ

@@ -1,38 +1,35 @@
--- What is promised of the calls beside their contracts. Each is proved in proofs/Promises.antt or a file that it names.
+-- What is promised of the calls beside their contracts. Each is proved in proofs/Promises.antt or a file that it names; Unique.antt has that outcomes are one.
 use Prim.Native.Nat.{ℕ, _<_, _≤_, _^_}
 use mathlib.Core.Path.{_≡_}
-use mathlib.Core.Bool.{false}
+use mathlib.Core.Bool.{true, false}
 use mathlib.Core.List.{List}
-use mathlib.Core.Option.{some}
+use mathlib.Core.Option.{Option, none, some}
 use lib.ListN.{length}
+use Rattle.wire.specs.Paper.{replyRoom}
 use Rattle.wire.specs.Messages.{readOf}
+use Rattle.wire.specs.Block.{blockLength, cutShort, noBlock}
 use Rattle.wire.specs.declared.codes.Refusal.{Refusal}
 use Rattle.wire.specs.declared.codes.StatusByte.{StatusByte}
 use Rattle.wire.specs.declared.codes.Sense.{Sense}
 use Rattle.wire.specs.declared.message.Message.the-variants.{AbortTask}
+use Rattle.reply.specs.Replies.{writableOf, bytesOf}
+use Rattle.reply.specs.Calls.{placed}
+use Rattle.reply.specs.declared.Reply.{Reply}
+use Rattle.reply.specs.declared.Reply.the-variants as reply
+use Rattle.task.specs.Next.{Next}
 use Rattle.task.specs.declared.Task.{Task}
-use Rattle.table.specs.Tables.{zeroTable, pathOf, pathAt}
+use Rattle.task.specs.declared.scan.Pick.{Pick}
+use Rattle.table.specs.Tables.{zeroTable, pathOf, pathAt, started}
 use Rattle.table.specs.Setup.{badList}
 use Rattle.table.specs.View.{at}
 use Rattle.table.specs.Promises.{Good}
 use Rattle.table.specs.declared.Table.{Table}
 use Rattle.plan.specs.declared.Answer.{Answer}
 use Rattle.plan.specs.declared.Answer.the-variants as answer
-use Rattle.engine.specs.Calls.{messageOf, startOf, finishOf, totalResetOf, setupOf, replied, Answers, handedOver}
+use Rattle.engine.specs.Calls.{messageOf, startOf, finishOf, totalResetOf, setupOf, mayGo, replied, Answers, handedOver}
 use Rattle.engine.specs.declared.Outcome.{Outcome}
 
--- ---- two outcomes that satisfy a call's contract are equal
-
-abbrev pub AnswersUnique : Type 0
-AnswersUnique = (defined : Outcome) (buf : List ℕ) (o p : Outcome) (k l : List ℕ) → Answers defined buf o k → Answers defined buf p l → (o ≡ p) × (k ≡ l)
-
-abbrev pub OutcomeUnique : Type 0
-OutcomeUnique = (defined o p : Outcome) → o ≡ defined → p ≡ defined → o ≡ p
-
-abbrev pub BlockUnique : Type 0
-BlockUnique = (m : List ℕ) (a : Answer) (k l : List ℕ) → k ≡ handedOver m a → l ≡ handedOver m a → k ≡ l
-
--- ---- a numbered refusal changes neither the table nor the reply buffer
+-- ---- a numbered refusal changes neither the table nor the reply buffer; a refused setup hands back the all-zero table
 
 abbrev pub MessageRefusals : Type 0
 MessageRefusals = (t : Table) (m buf : List ℕ) (o : Outcome) (left : List ℕ) (n : Refusal)
@@ -43,14 +40,58 @@ FinishRefusals = (t : Table) (arrival : ℕ) (status : StatusByte) (s : Sense) (
     → Answers (finishOf t arrival status s (length buf)) buf o left → o .answer ≡ answer.Refused n → (o .table ≡ t) × (left ≡ buf)
 
 abbrev pub StartRefusals : Type 0
-StartRefusals = (t : Table) (unit : ℕ) (n : Refusal) → startOf t unit .answer ≡ answer.Refused n → startOf t unit .table ≡ t
+StartRefusals = (t : Table) (unit : ℕ) (o : Outcome) (n : Refusal) → o ≡ startOf t unit → o .answer ≡ answer.Refused n → o .table ≡ t
 
 abbrev pub ResetRefusals : Type 0
-ResetRefusals = (t : Table) (n : Refusal) → totalResetOf t .answer ≡ answer.Refused n → totalResetOf t .table ≡ t
+ResetRefusals = (t : Table) (o : Outcome) (n : Refusal) → o ≡ totalResetOf t → o .answer ≡ answer.Refused n → o .table ≡ t
 
--- a refused setup hands back the all-zero table
 abbrev pub SetupRefusals : Type 0
-SetupRefusals = (ids : List ℕ) (attached first : ℕ) (n : Refusal) → setupOf ids attached first .answer ≡ answer.Refused n → setupOf ids attached first .table ≡ zeroTable
+SetupRefusals = (ids : List ℕ) (attached first : ℕ) (o : Outcome) (n : Refusal) → o ≡ setupOf ids attached first → o .answer ≡ answer.Refused n → o .table ≡ zeroTable
+
+-- ---- where the answer is a reply, that reply is written
+
+-- the reply that an answer is
+abbrev pub replyOf : Answer → Option Reply
+replyOf answer.Ready = none
+replyOf (answer.Accepted n) = none
+replyOf (answer.Response tag code) = some (reply.Response tag code)
+replyOf (answer.Status tag status sense) = some (reply.Status tag status sense)
+replyOf (answer.Started n) = none
+replyOf answer.Reset = none
+replyOf (answer.Refused n) = none
+
+-- r is one that the engine can write, no longer than 64 bytes; its bytes stand at the front of the buffer, and those after it keep their values
+pub record Written (r : Reply) (buf left : List ℕ) : Type 0 where
+  pub writable : writableOf r ≡ true
+  pub no-longer : length (bytesOf r) ≤ replyRoom
+  pub in-front : left ≡ placed (bytesOf r) buf
+
+-- whatever the buffer: with under 64 bytes no answer is a reply. So no other code than 00h, 01h, 04h, 20h and FFh goes out, no other status than the six,
+-- and no reply is left unwritten
+pub record RepliesAreWritten : Type 0 where
+  pub message : (t : Table) (m buf : List ℕ) (o : Outcome) (left : List ℕ) (r : Reply)
+      → Answers (messageOf t m (length buf)) buf o left → replyOf (o .answer) ≡ some r → Written r buf left
+  pub finish : (t : Table) (arrival : ℕ) (status : StatusByte) (s : Sense) (buf : List ℕ) (o : Outcome) (left : List ℕ) (r : Reply)
+      → Answers (finishOf t arrival status s (length buf)) buf o left → replyOf (o .answer) ≡ some r → Written r buf left
+
+-- ---- what an accepted command and a start come to
+
+-- the block of an accepted command is whole and has a length, and so many bytes are handed over
+abbrev pub AcceptedIsWhole : Type 0
+AcceptedIsWhole = (t : Table) (m buf : List ℕ) (o : Outcome) (left : List ℕ) (arrival : ℕ)
+    → Answers (messageOf t m (length buf)) buf o left → o .answer ≡ answer.Accepted arrival
+    → (cutShort m ≡ false) × (noBlock m ≡ false) × (length (handedOver m (o .answer)) ≡ blockLength m)
+
+-- the record of one of the tasks that may go, and of these the one that goes next: it runs in the table after, and its arrival number is the answer
+pub record Goes (t : Table) (unit arrival : ℕ) (after : Table) : Type 0 where
+  pub pick : Pick
+  pub found : pick .found ≡ true
+  pub next : Next (t .live) (mayGo t unit) (t .tasks) (length (t .tasks)) pick
+  pub answered : pick .arrival ≡ arrival
+  pub runs : after ≡ started t (pick .at)
+
+abbrev pub StartsNext : Type 0
+StartsNext = (t : Table) (unit arrival : ℕ) (o : Outcome) → o ≡ startOf t unit → o .answer ≡ answer.Started arrival → Goes t unit arrival (o .table)
 
 -- ---- every call keeps a table sound, and setup's is
 

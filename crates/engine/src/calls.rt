@@ -22,11 +22,10 @@ use task::select::Place;
 use task::select::Selection;
 use task::select::Sort;
 use task::select::Stage;
+use wire::codes::REPLY_ROOM;
 use wire::codes::Refusal;
 use wire::codes::Sense;
 use wire::codes::StatusByte;
-
-const REPLY_ROOM: usize = 64;
 
 fn refuse(t: Table, n: Refusal) -> Outcome
     ensures { λ o. ⌜ o ≡ Calls.refused t n ⌝ }

@@ -3,6 +3,8 @@ use Prim.Native.Nat.{ℕ, _<_}
 use mathlib.Core.Path.{_≡_, refl, sym, ap, _∙_, subst}
 use mathlib.Core.Bool.{Bool, true, false, cond, _&&_}
 use mathlib.Core.List.{List}
+use mathlib.Core.Logic.{inl, inr}
+use mathlib.Core.Option.{some}
 use native.Mathlib.Omega.{arith}
 use lib.ListN.{length, getD}
 use lib.Dec.{eqb, ltb}
@@ -17,17 +19,17 @@ use Rattle.task.specs.Selections.{picks, everyTask, runningAs}
 use Rattle.task.specs.declared.Kind.{Kind}
 use Rattle.task.specs.declared.Task.{Task}
 use Rattle.task.specs.declared.select.Selection.{Selection}
-use Rattle.task.proofs.Ways.{never, both, cond-ind}
+use Rattle.task.proofs.Ways.{either-way, never, both, cond-ind}
 use Rattle.task.proofs.Places.{first-picks, first-before, first-is}
 use Rattle.task.proofs.Selecting.{meets, picks-every}
 use Rattle.table.specs.Tables.{pathAt, taskAt, hasId, placeOf, pathOf, hasRoom, pickOf, newTask, accepted, endedBy, started, finished, resetOf, withPaths, withUnits}
 use Rattle.table.specs.Sound.{Shaped}
-use Rattle.table.specs.View.{at}
+use Rattle.table.specs.View.{at, weight}
 use Rattle.table.specs.Promises.{Good}
 use Rattle.table.specs.declared.Path as path
 use Rattle.table.specs.declared.Unit as unit
 use Rattle.table.specs.declared.Table.{Table}
-use Rattle.table.proofs.Views.{OnlyTasks, idsOf, ids-at, ids-length, ids-marked, ids-attended, ids-alarmed, ids-warned, reset-ids, accepted-put, accepted-only, ended-only, ended-next, ended-paths, ended-units, finished-units, started-only, started-next, pick-stands, pick-at}
+use Rattle.table.proofs.Views.{OnlyTasks, Found, idsOf, ids-at, ids-length, ids-marked, ids-attended, ids-alarmed, ids-warned, reset-ids, accepted-put, accepted-only, ended-only, ended-next, ended-paths, ended-units, finished-units, started-only, started-next, pick-stands, pick-at}
 use Rattle.table.proofs.Weights.{weight-same, accept-weighs, end-weighs, reset-weighs}
 use Rattle.rules.specs.Management.{endsOf, orderCode, orderPaths}
 use Rattle.rules.specs.Rules.{factsOf, deciding}
@@ -51,8 +53,8 @@ use Rattle.plan.specs.declared.Answer.the-variants as answer
 use Rattle.engine.specs.declared.Outcome.{Outcome}
 use Rattle.engine.proofs.Outcomes.{each-message, each-start, each-finish, each-reset}
 use Rattle.engine.proofs.Keeps.{accept-has-room}
-use Rattle.history.specs.Trace.{Event, Message, Start, Finish, TotalReset, Label, byStatus, byTotalReset, byOrder, Effect, Nothing, Accepts, Starts, Ends, placeIn, commandEffect, orderEffect, messageEffect, effectOf}
-use Rattle.history.proofs.Totals.{weight-zero, started-weighs}
+use Rattle.history.specs.Trace.{Event, Message, Start, Finish, TotalReset, Label, byStatus, byTotalReset, byOrder, Effect, Nothing, Accepts, Starts, Ends, placeIn, numbered, commandEffect, orderEffect, messageEffect, effectOf}
+use Rattle.history.proofs.Totals.{weight-live, weight-zero, started-weighs}
 use Rattle.history.proofs.Kept.{Sure, Done}
 
 -- ---- what a change of paths and units leaves
@@ -192,16 +194,41 @@ module _ (t : Table) (g : Good t) where
         sure = tt;
       }
 
+  -- a live task with the number of a running one is that one
+  same-picked : (arrival k : ℕ) (a : Task) → Found t (runningAs arrival) k a → (i : ℕ) (b : Task) → i < 64 → at t i ≡ some b
+      → picks (runningAs arrival) b ≡ picks (numbered arrival) b
+  unfolding picks
+  same-picked arrival k a f i b below here = elim (either-way (eqb (b .arrival) arrival)) [
+    | inl y ↦
+        let n : a .arrival ≡ arrival = eqb-true _ _ (meets (runningAs arrival) a (f .picked) .number) in
+        let one : i ≡ k = g .sound .one-arrival i k b a below (f .below) here (f .here) (eqb-true _ _ y ∙ sym n) in
+        let there : at t i ≡ some a = rw one (f .here) in
+        let same : a ≡ b = cc in
+        let asked : picks (numbered arrival) b ≡ true = rw y refl in
+        subst (λ (x : Task). picks (runningAs arrival) x ≡ true) same (f .picked) ∙ sym asked
+    | inr y ↦ rw y refl
+  ]
+
   done-finished : (arrival : ℕ) (failed : Bool) → pickOf t (runningAs arrival) .found ≡ true
-      → Done (Ends (runningAs arrival) byStatus) t (finished t (runningTask t arrival) failed)
+      → Done (Ends (numbered arrival) byStatus) t (finished t (runningTask t arrival) failed)
   done-finished arrival failed found =
       let a : Task = runningTask t arrival in
       let f = pick-at t (runningAs arrival) (g .shaped) found in
       let n : a .arrival ≡ arrival = eqb-true _ _ (meets (runningAs arrival) a (f .picked) .number) in
-      let sure : Sure (Ends (runningAs arrival) byStatus) t =
-      λ _. (pickOf t (runningAs arrival) .at, a, f .below, f .here, λ b e. eqb-true _ _ (meets (runningAs arrival) b e .number) ∙ sym n) in
-      let d : Done (Ends (runningAs arrival) byStatus) t (endedBy t (runningAs arrival)) = done-ended t (runningAs arrival) byStatus (g .shaped) sure in
-      rw (finished-units t a failed, n) (done-beside (Ends (runningAs arrival) byStatus) t (endedBy t (runningAs arrival)) (endedBy t (runningAs arrival) .paths) _ refl d)
+      let d : Done (Ends (numbered arrival) byStatus) t (endedBy t (runningAs arrival)) =
+      record {
+        count = only-count t _ (ended-only t (runningAs arrival));
+        ids = only-ids t _ (ended-only t (runningAs arrival));
+        next = ended-next t (runningAs arrival) ∙ omega arith;
+        weighs = λ w. end-weighs w t (runningAs arrival) (g .shaped) ∙ left w ∙ omega arith;
+        sure = λ _. (pickOf t (runningAs arrival) .at, a, f .below, f .here, λ b e. eqb-true _ _ (meets (numbered arrival) b e .number) ∙ sym n);
+      } in
+      rw (finished-units t a failed, n) (done-beside (Ends (numbered arrival) byStatus) t (endedBy t (runningAs arrival)) (endedBy t (runningAs arrival) .paths) _ refl d)
+    where
+      left : (w : Task → ℕ) → weight (λ b. cond (picks (runningAs arrival) b) 0 (w b)) t ≡ weight (λ b. cond (picks (numbered arrival) b) 0 (w b)) t
+      left w =
+          weight-live (λ b. cond (picks (runningAs arrival) b) 0 (w b)) (λ b. cond (picks (numbered arrival) b) 0 (w b)) t
+          (λ i b below here. ap (λ (x : Bool). cond x 0 (w b)) (same-picked arrival _ _ (pick-at t (runningAs arrival) (g .shaped) found) i b below here))
 
   done-reset : Done (Ends everyTask byTotalReset) t (resetOf t)
   unfolding resetOf

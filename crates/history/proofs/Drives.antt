@@ -47,9 +47,9 @@ wrong-drives = record {
   not-restarts = λ d.
       let z : 2 ≤ 1 = attempt restarts d (inquiry 1 5 ∷ Start 0 ∷ TotalReset ∷ inquiry 2 5 ∷ Start 0 ∷ finish 1 ∷ []) .once 0 _ refl in
       omega arith;
-  -- the second finish ends the command again
+  -- the command is aborted while it waits, and the late finish ends it again
   not-finishes-all = λ d.
-      let z : 2 ≤ 1 = attempt finishesAll d (inquiry 1 5 ∷ Start 0 ∷ finish 1 ∷ finish 1 ∷ []) .once 0 _ refl in
+      let z : 2 ≤ 1 = attempt finishesAll d (inquiry 1 5 ∷ abort 1 6 5 ∷ finish 1 ∷ []) .once 0 _ refl in
       omega arith;
   -- the command is accepted, not ended and not live
   not-loses = λ d.

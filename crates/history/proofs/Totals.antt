@@ -100,6 +100,14 @@ weight-find f t h = let r = sum-find 64 (λ i. weightAt f (at t i)) h in filled 
     filled i l none e h = absurd (omega arith)
     filled i l (some a) e h = (i, a, l, e, h)
 
+-- two weights that agree on every live task
+pub weight-live : (f g : Task → ℕ) (t : Table) → ((i : ℕ) (a : Task) → i < 64 → at t i ≡ some a → f a ≡ g a) → weight f t ≡ weight g t
+weight-live f g t h = weight-ext f g t t (λ i below. live i below (at t i) refl)
+  where
+    live : (i : ℕ) → i < 64 → (x : Option Task) → at t i ≡ x → weightAt f x ≡ weightAt g x
+    live i below none e = refl
+    live i below (some a) e = h i a below e
+
 pub weight-zero : (f : Task → ℕ) (t : Table) → ((a : Task) → f a ≡ 0) → weight f t ≡ 0
 unfolding weight
 weight-zero f t h = sum-zero 64 (λ i. weightAt f (at t i)) (λ i _. nothing (at t i))

@@ -37,7 +37,7 @@ use Rattle.plan.specs.declared.Answer.{Answer}
 use Rattle.plan.specs.declared.Answer.the-variants as answer
 use Rattle.history.specs.Trace.{Event, Message, Start, Finish, TotalReset, Told, nth, eventAt, Label, byOrder, isStatus, Effect, Nothing, Accepts, Starts, Ends, placeIn, commandEffect, orderEffect, messageEffect, startEffect, finishEffect, resetEffect, effectOf, did}
 use Rattle.history.specs.Ledger.{Ending, Entry, isEmpty, isOpen, newEntry, running, marked, noted, ledgerFrom, ledger, Has}
-use Rattle.history.specs.Demand.{Entered, waiting, Came, Caused, reachesOthers, mayReachOthers, EndsItsOwn}
+use Rattle.history.specs.Demand.{EntryAt, waiting, Came, Caused, reachesOthers, mayReachOthers, EndsItsOwn}
 use Rattle.history.proofs.Nth.{Each, same-element, nth-below, nth-append, nth-last, nth-map, each-none, each-last, each-map}
 
 -- ---- what an event can do, by its answer
@@ -188,10 +188,10 @@ module _ (ids : List ℕ) (h : List Told) where
   known : Each (Known (1 + length h)) (ledger ids h)
   known = by-events (λ n l. Each (Known n) l) (λ n x l there w. known-noted n x there (did ids x) refl l w) (each-none (Known 1))
 
-  pub came-in : (k : ℕ) (e : Entry) → Entered ids h k e → Came ids h e
+  pub came-in : (k : ℕ) (e : Entry) → EntryAt ids h k e → Came ids h e
   came-in k e g = known k e g .came
 
-  pub caused-in : (k : ℕ) (e : Entry) (x : Ending) → Entered ids h k e → Has x (e .endings) → Caused ids h e x
+  pub caused-in : (k : ℕ) (e : Entry) (x : Ending) → EntryAt ids h k e → Has x (e .endings) → Caused ids h e x
   caused-in k e x g m = known k e g .caused (m .0) x (m .1)
 
 -- ---- each accepted command has its entry
@@ -236,7 +236,7 @@ module _ (ids : List ℕ) (h : List Told) where
   event-below (suc n) x there = omega (arith, nth-below h n there)
 
   pub entered-in : (n : ℕ) (x : Told) (a : Task) → eventAt h n ≡ some x → did ids x ≡ Accepts a
-      → (k : ℕ) × (e : Entry) × Entered ids h k e × (e .accepted ≡ n) × (waiting (e .task) ≡ a)
+      → (k : ℕ) × (e : Entry) × EntryAt ids h k e × (e .accepted ≡ n) × (waiting (e .task) ≡ a)
   entered-in n x a there f = by-events ids h EnteredBefore entered-kept none-before n x a (event-below n x there) there f
 
 -- ---- whose commands a message ends

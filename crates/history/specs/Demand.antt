@@ -63,8 +63,8 @@ lastTable t (c ∷ cs) = lastTable (c .outcome .table) cs
 -- ---- ledger and table
 
 -- entry k of the ledger of a trace
-abbrev pub Entered : List ℕ → List Told → ℕ → Entry → Type 0
-Entered ids h k e = nth (ledger ids h) k ≡ some e
+abbrev pub EntryAt : List ℕ → List Told → ℕ → Entry → Type 0
+EntryAt ids h k e = nth (ledger ids h) k ≡ some e
 
 -- a task as it is when its command is accepted
 abbrev pub waiting : Task → Task
@@ -91,23 +91,23 @@ accountedFor p l t = endedFrom isStatus p l + endedFrom isManagement p l + ended
 
 pub record Agrees (ids : List ℕ) (h : List Told) (t : Table) : Type 0 where
   -- 1. one live record for each open entry, with its path, tag, unit, kind and arrival number, and no other live record
-  pub held : (k : ℕ) (e : Entry) → Entered ids h k e → isOpen e ≡ true → (i : ℕ) × (i < 64) × (at t i ≡ some (e .task))
-  pub no-other : (i : ℕ) (a : Task) → i < 64 → at t i ≡ some a → (k : ℕ) × (e : Entry) × Entered ids h k e × (isOpen e ≡ true) × (e .task ≡ a)
+  pub held : (k : ℕ) (e : Entry) → EntryAt ids h k e → isOpen e ≡ true → (i : ℕ) × (i < 64) × (at t i ≡ some (e .task))
+  pub no-other : (i : ℕ) (a : Task) → i < 64 → at t i ≡ some a → (k : ℕ) × (e : Entry) × EntryAt ids h k e × (isOpen e ≡ true) × (e .task ≡ a)
   --    an arrival number names one live record and one accepted command, open or ended
   pub one-record : (i j : ℕ) (a b : Task) → i < 64 → j < 64 → at t i ≡ some a → at t j ≡ some b → a .arrival ≡ b .arrival → i ≡ j
-  pub one-entry : (k l : ℕ) (e f : Entry) → Entered ids h k e → Entered ids h l f → e .task .arrival ≡ f .task .arrival → k ≡ l
+  pub one-entry : (k l : ℕ) (e f : Entry) → EntryAt ids h k e → EntryAt ids h l f → e .task .arrival ≡ f .task .arrival → k ≡ l
   --    the ones of the live map are the open entries
   pub live-count : ones (t .live) ≡ countOf isOpen (ledger ids h)
   -- 2. no command is ended twice; each entry and each ending has its event in the trace, and each command that the trace accepts has its entry
-  pub once : (k : ℕ) (e : Entry) → Entered ids h k e → timesEnded e ≤ 1
-  pub came : (k : ℕ) (e : Entry) → Entered ids h k e → Came ids h e
-  pub caused : (k : ℕ) (e : Entry) (x : Ending) → Entered ids h k e → Has x (e .endings) → Caused ids h e x
+  pub once : (k : ℕ) (e : Entry) → EntryAt ids h k e → timesEnded e ≤ 1
+  pub came : (k : ℕ) (e : Entry) → EntryAt ids h k e → Came ids h e
+  pub caused : (k : ℕ) (e : Entry) (x : Ending) → EntryAt ids h k e → Has x (e .endings) → Caused ids h e x
   pub entered : (n : ℕ) (x : Told) (a : Task) → eventAt h n ≡ some x → did ids x ≡ Accepts a
-      → (k : ℕ) × (e : Entry) × Entered ids h k e × (e .accepted ≡ n) × (waiting (e .task) ≡ a)
+      → (k : ℕ) × (e : Entry) × EntryAt ids h k e × (e .accepted ≡ n) × (waiting (e .task) ≡ a)
   -- 3. for the path at each place of the list: accepted = ended by status + ended by management + ended by reset + live records
   pub balance : (p : ℕ) → acceptedFrom ids p h ≡ accountedFor p (ledger ids h) t
 
--- ---- the demand on the calls' contracts: every setup that is not refused, and whatever the calls then handed back, given only their contracts
+-- ---- the demand on the contracts of the four calls after setup: every setup of the engine that is not refused, and whatever the calls then handed back, given only their contracts
 
 abbrev pub Demand3 : Contract → Type 0
 Demand3 C = (ids : List ℕ) (attached first : ℕ) (o : Outcome) (cs : List Call) → first < 2 ^ 64 → o ≡ setupOf ids attached first → o .answer ≡ Ready → Chained C (o .table) cs
@@ -131,7 +131,7 @@ mayReachOthers (Manage o) = reachesOthers o
 -- in the ledger of any trace, whatever the tags: a command that is ended by another order was the sender's own
 abbrev pub EndsItsOwn : Type 0
 EndsItsOwn = (ids : List ℕ) (h : List Told) (k : ℕ) (e : Entry) (x : Ending) (m buf : List ℕ) (path tag : ℕ) (w : What)
-    → Entered ids h k e → Has x (e .endings) → (y : Told) → eventAt h (x .event) ≡ some y → y .event ≡ Message m buf → askedOf (readOf m) ≡ By path tag w
+    → EntryAt ids h k e → Has x (e .endings) → (y : Told) → eventAt h (x .event) ≡ some y → y .event ≡ Message m buf → askedOf (readOf m) ≡ By path tag w
     → mayReachOthers w ≡ false → e .task .path ≡ placeIn ids path
 
 -- in the table: such a message leaves every live record of another path where it is and as it is

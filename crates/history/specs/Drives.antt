@@ -1,4 +1,4 @@
--- Wrong drives: each differs from the engine in one thing, and each breaks demand 3 on a short trace.
+-- Wrong drives: six differ from the engine in one thing and break demand 3 on a short trace; a seventh refuses every call, which demand 3 alone does not refuse.
 use Prim.Native.Nat.{ℕ, zero, suc, _-_, _^_}
 use mathlib.Core.Path.{_≡_}
 use mathlib.Core.Bool.{cond}
@@ -46,7 +46,7 @@ engine TotalReset t = totalResetOf t
 abbrev pub withTable : Outcome → Table → Outcome
 withTable o t = out t (o .answer) (o .to)
 
--- it works at the first call after a setup whose first arrival number is 1, and afterwards echoes its table
+-- it works until a command is accepted after a setup whose first arrival number is 1, at the first call of a trace that begins with one, and afterwards echoes its table
 unfoldable pub echoes : Drive
 echoes ev t = withTable (engine ev t) (cond (eqb (t .next) 1) (engine ev t .table) t)
 

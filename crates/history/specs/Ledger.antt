@@ -45,8 +45,8 @@ newEntry n a = record { task = a; accepted = n; endings = [] }
 unfoldable pub running : ℕ → Entry → Entry
 running arrival e = cond (isOpen e && eqb (e .task .arrival) arrival) (record { task = runs (e .task); accepted = e .accepted; endings = e .endings }) e
 
--- Every open command that is picked is ended. A finish names one command by its arrival number, and a STATUS for it is an ending even where the command was ended before:
--- that this never happens is not built into the ledger, and the theorem says it.
+-- Every open command that is picked is ended. A finish names one command by its arrival number, and a STATUS for it is an ending even where the command was ended before,
+-- whether it ran then or still waited: that this never happens is not built into the ledger, and the theorem says it.
 unfoldable pub marked : ℕ → Selection → Label → Entry → Entry
 marked n s how e =
     cond (picks s (e .task) && (isOpen e || isStatus how))
@@ -96,6 +96,6 @@ acceptsFrom p (Ends s how) = false
 abbrev pub acceptedFrom : List ℕ → ℕ → List Told → ℕ
 acceptedFrom ids p h = countOf (λ x. acceptsFrom p (did ids x)) h
 
--- how many endings of a sort the ledger has for commands from the path at p: a command that is ended twice counts twice
+-- how many endings that count the ledger has for commands from the path at p: a command that is ended twice counts twice
 abbrev pub endedFrom : (Label → Bool) → ℕ → List Entry → ℕ
-endedFrom sort p l = total (λ e. cond (isFrom p (e .task)) (countOf (λ x. sort (x .how)) (e .endings)) 0) l
+endedFrom counts p l = total (λ e. cond (isFrom p (e .task)) (countOf (λ x. counts (x .how)) (e .endings)) 0) l

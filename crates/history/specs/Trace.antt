@@ -11,10 +11,15 @@ use Rattle.wire.specs.Messages.{readOf}
 use Rattle.wire.specs.declared.codes.StatusByte.{StatusByte}
 use Rattle.wire.specs.declared.codes.Sense.{Sense}
 use Rattle.task.specs.Index.{first}
-use Rattle.task.specs.Selections.{everyTask, runningAs}
+use Rattle.task.specs.Selections.{select, everyTask}
 use Rattle.task.specs.declared.Kind.{Kind}
 use Rattle.task.specs.declared.Phase.the-variants.{Waiting}
 use Rattle.task.specs.declared.Task.{Task}
+use Rattle.task.specs.declared.select.Number.the-variants.{Exactly}
+use Rattle.task.specs.declared.select.Whose.the-variants.{Anyone}
+use Rattle.task.specs.declared.select.Place.the-variants.{Anywhere}
+use Rattle.task.specs.declared.select.Sort.the-variants.{AnyKind}
+use Rattle.task.specs.declared.select.Stage.the-variants.{AnyPhase}
 use Rattle.task.specs.declared.select.Selection.{Selection}
 use Rattle.rules.specs.Management.{endsOf}
 use Rattle.plan.specs.Plans.{askedOf, kindOf}
@@ -52,7 +57,7 @@ unfoldable pub eventAt : List Told → ℕ → Option Told
 eventAt h zero = none
 eventAt h (suc k) = nth h k
 
--- ---- how a command is ended: by the STATUS of its finish, by a management order, or by the drive's total reset
+-- ---- how a command is ended: by the STATUS of its finish, by the order of a message, or by the drive's total reset
 
 pub data Label : Type 0 where
   byStatus byTotalReset : Label
@@ -104,7 +109,7 @@ commandEffect p tag lun kind (answer.Started n) = Nothing
 commandEffect p tag lun kind answer.Reset = Nothing
 commandEffect p tag lun kind (answer.Refused n) = Nothing
 
--- an order ends what it selects where it is answered 00h
+-- an order ends what it selects where it is answered by RESPONSE 00h
 abbrev pub orderEffect : ℕ → Order → Answer → Effect
 orderEffect p o answer.Ready = Nothing
 orderEffect p o (answer.Accepted n) = Nothing
@@ -129,17 +134,21 @@ startEffect (answer.Started n) = Starts n
 startEffect answer.Reset = Nothing
 startEffect (answer.Refused n) = Nothing
 
--- a finish that is answered by a STATUS ends the running command with the number that it names
+-- the command with an arrival number, whether it waits or runs
+abbrev pub numbered : ℕ → Selection
+numbered arrival = select (Exactly arrival) Anyone Anywhere AnyKind AnyPhase
+
+-- a finish that is answered by a STATUS ends the command with the number that it names. The engine answers so where that command runs; the trace takes the STATUS at its word
 abbrev pub finishEffect : ℕ → Answer → Effect
 finishEffect arrival answer.Ready = Nothing
 finishEffect arrival (answer.Accepted n) = Nothing
 finishEffect arrival (answer.Response t code) = Nothing
-finishEffect arrival (answer.Status t status sense) = Ends (runningAs arrival) byStatus
+finishEffect arrival (answer.Status t status sense) = Ends (numbered arrival) byStatus
 finishEffect arrival (answer.Started n) = Nothing
 finishEffect arrival answer.Reset = Nothing
 finishEffect arrival (answer.Refused n) = Nothing
 
--- a total reset that is not refused ends every command
+-- a total reset that is answered by `reset` ends every command
 abbrev pub resetEffect : Answer → Effect
 resetEffect answer.Ready = Nothing
 resetEffect (answer.Accepted n) = Nothing

@@ -29,22 +29,28 @@ pub enum Asked {
     Unread(Refusal),
 }
 
-// What happens to paths and units: nothing, a mood of the path at a place, or what an order does besides ending tasks, with the map of the paths that lose one.
+// What happens to paths and units.
 pub enum Change {
+    // All stay.
     Nothing,
+    // A command is answered: the mark and attention of its sender, the path at a place.
     Sender(u8, Mood),
+    // An order is carried out: what it does besides ending tasks, with the map of the other paths that lose one.
     Besides(u8, Order),
 }
 
-// What happens to the records: nothing, a new task of the path at a place, or an end to all tasks of a selection.
+// What happens to the records.
 pub enum Deed {
+    // Every record stays.
     Nothing,
+    // A command is accepted, waiting: a new task of the path at a place takes the lowest-numbered free record.
     Accept {
         path: u8,
         tag: u16,
         lun: u8,
         kind: Kind,
     },
+    // An order ends all tasks of a selection.
     End(Selection),
 }
 

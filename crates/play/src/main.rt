@@ -3,7 +3,7 @@ use libc::STDIN_FILENO;
 use libc::STDOUT_FILENO;
 use transcript::play::Player;
 
-// Plays the input: no input has more events than bytes.
+// Plays the input. Before the events stands a header of four bytes at least, and an event has one at least: so a turn for each byte is enough to come to the end.
 fn play(s: &[u8]) {
     let mut line = [0u8; 64];
     let mut p = transcript::play::open(s);

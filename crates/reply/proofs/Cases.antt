@@ -6,13 +6,14 @@ use mathlib.Core.Bool.{Bool, true, false, not, or-false}
 use mathlib.Core.List.{List, [], _∷_, _++_}
 use lib.ListN.{length, take, drop, replicate}
 use lib.Seq.{take-length}
-use lib.Dec.{leb, eqb}
-use borrow.Author.Tests.{not-true, not-false, le-ltb, lt-ltb, eq-eqb, ne-eqb}
+use lib.Dec.{leb, ltb, eqb}
+use borrow.Author.Tests.{not-true, not-false, le-ltb, lt-ltb, ltb-false, eq-eqb, ne-eqb, eqb-true, eqb-false}
 use Rattle.wire.specs.Paper.{tooShort, notHandled, smallBuffer, notWritable, replyRoom, smsCode, scsiResponse, scsiStatus, checkCondition}
 use Rattle.wire.specs.Fields.{byte}
 use Rattle.wire.specs.declared.codes.ReturnCode.{ReturnCode}
 use Rattle.wire.specs.declared.codes.StatusByte.{StatusByte}
 use Rattle.wire.specs.declared.codes.Sense.{Sense}
+use Rattle.wire.proofs.Table.{cond-ind}
 use Rattle.reply.specs.Replies.{oneOf, responseCodes, plainStatuses, isNone, writableOf, bytesOf, senseBytes, responseLength, statusLength}
 use Rattle.reply.specs.Calls.{writtenOf, leftOf, Writes, startsWith, fitted, asResponse, asStatus, foundIn}
 use Rattle.reply.specs.declared.Reply.{Reply}
@@ -144,5 +145,25 @@ module _ (b : List ℕ) (h : 2 ≤ length b) where
       pub other : (byte b 1 ≡ scsiStatus → ⊥) → found.Refused notHandled ≡ foundIn b
       unfolding foundIn
       other k = simp (le-ltb _ _ h, eq-eqb _ _ e, ne-eqb _ _ x, ne-eqb _ _ k)
+
+-- one of the ways out, with what the tests on it found
+module _ (P : Found → Type 0) (b : List ℕ) where
+  pub each-finding : P (found.Refused tooShort)
+      → (2 ≤ length b → (byte b 0 ≡ smsCode → ⊥) → P (found.Refused notHandled))
+      → (2 ≤ length b → byte b 0 ≡ smsCode → byte b 1 ≡ scsiResponse → responseLength ≤ length b → P (fitted (asResponse b) b))
+      → (2 ≤ length b → byte b 0 ≡ smsCode → (byte b 1 ≡ scsiResponse → ⊥) → byte b 1 ≡ scsiStatus → statusLength ≤ length b → P (fitted (asStatus b) b))
+      → (2 ≤ length b → byte b 0 ≡ smsCode → (byte b 1 ≡ scsiResponse → ⊥) → (byte b 1 ≡ scsiStatus → ⊥) → P (found.Refused notHandled))
+      → P (foundIn b)
+  unfolding foundIn
+  each-finding refused ours response status rest =
+      cond-ind P (ltb (length b) 2) (λ _. refused)
+      (λ h. cond-ind P (not (eqb (byte b 0) smsCode)) (λ n. ours (ltb-false _ _ h) (eqb-false _ _ (not-true _ n)))
+      (λ e. cond-ind P (eqb (byte b 1) scsiResponse)
+      (λ k. cond-ind P (ltb (length b) responseLength) (λ _. refused)
+      (λ l. response (ltb-false _ _ h) (eqb-true _ _ (not-false _ e)) (eqb-true _ _ k) (ltb-false _ _ l)))
+      (λ x. cond-ind P (eqb (byte b 1) scsiStatus)
+      (λ k. cond-ind P (ltb (length b) statusLength) (λ _. refused)
+      (λ l. status (ltb-false _ _ h) (eqb-true _ _ (not-false _ e)) (eqb-false _ _ x) (eqb-true _ _ k) (ltb-false _ _ l)))
+      (λ k. rest (ltb-false _ _ h) (eqb-true _ _ (not-false _ e)) (eqb-false _ _ x) (eqb-false _ _ k)))))
 
 pub ruleset read-cases = (no-codes, not-ours, short-response, whole-response, short-status, whole-status, other)

@@ -2,3 +2,5 @@
 mod Front
 mod Cases
 pub mod Promises
+pub mod Past
+pub mod Unique

@@ -1,38 +1,31 @@
--- The promises of specs/Promises.antt.
+-- Reading gives back what was written, and writing what was read; a refusal leaves the buffer; no reply is longer than 64 bytes.
 -- Assumes nothing.
-use Prim.Native.Nat.{ℕ, _/_, _%_, _≤_}
+use Prim.Native.Nat.{ℕ, _/_, _%_}
 use mathlib.Core.Path.{_≡_, refl, sym, ap, _∙_}
-use mathlib.Core.Bool.{Bool, true, false, cond, not, _&&_, and-eq-true-iff, false≢true}
+use mathlib.Core.Bool.{Bool, true, false, cond, _&&_, and-eq-true-iff, false≢true}
 use mathlib.Core.List.{List, [], _∷_, _++_}
-use lib.ListN.{length, take}
+use lib.ListN.{length, take, length-append}
 use lib.Dec.{eqb, ltb}
 use lib.Seq.{take-append-seam}
 use borrow.Author.Tests.{le-ltb, eq-eqb, eqb-true, eqb-false}
 use native.Mathlib.Nat.{div-add-mod'}
 use native.Mathlib.Omega.{arith}
-use Rattle.wire.specs.Paper.{tooShort, notHandled, smallBuffer, notWritable, replyRoom, smsCode, scsiResponse, scsiStatus, checkCondition, sense, noSense}
-use Rattle.wire.specs.Fields.{byte}
+use Rattle.wire.specs.Paper.{tooShort, notHandled, smallBuffer, notWritable, replyRoom}
+use Rattle.wire.specs.Paper.{smsCode, scsiStatus, checkCondition, sense, noSense}
 use Rattle.wire.specs.declared.codes.Refusal.{Refusal}
 use Rattle.wire.specs.declared.codes.ReturnCode.{ReturnCode}
 use Rattle.wire.specs.declared.codes.StatusByte.{StatusByte}
 use Rattle.wire.specs.declared.codes.Sense.{Sense}
 use Rattle.wire.proofs.Table.{cond-ind}
-use Rattle.wire.proofs.Promises.{determined}
 use Rattle.reply.specs.Replies.{isNone, writableOf, bytesOf, responseLength, statusLength}
 use Rattle.reply.specs.Calls.{writtenOf, leftOf, placed, startsWith, fitted, asResponse, asStatus, foundIn}
-use Rattle.reply.specs.Promises.{ReadsWhatWasWritten, WritesWhatWasRead, RefusalLeavesTheBuffer, WriteUnique, ReadUnique}
+use Rattle.reply.specs.Promises.{ReadsWhatWasWritten, WritesWhatWasRead, RefusalLeavesTheBuffer, NoReplyIsLonger}
 use Rattle.reply.specs.declared.Reply.{Reply}
 use Rattle.reply.specs.declared.Reply.the-variants.{Response, Status}
 use Rattle.reply.specs.declared.Written.the-variants as written
 use Rattle.reply.specs.declared.Found.{Found}
 use Rattle.reply.specs.declared.Found.the-variants as found
-use Rattle.reply.proofs.Cases.{whole-response, whole-status}
-
-pub write-unique : WriteUnique
-write-unique r buf w v k l p q = (determined (p .answer) (q .answer), determined (p .buffer) (q .buffer))
-
-pub read-unique : ReadUnique
-read-unique b f g = determined
+use Rattle.reply.proofs.Cases.{whole-response, whole-status, each-finding}
 
 -- ---- reading what was written
 
@@ -65,17 +58,26 @@ status-fields t x s rest false e w =
     let n : s ≡ noSense = none-is s (and-eq-true-iff (isNone s) _ .0 (rw e at w) .0) in
     rw (e, n) (ap (λ k. Status k x noSense) (sym (div-add-mod' t 256)))
 
-status-length : (t : ℕ) (x : StatusByte) (s : Sense) (rest : List ℕ) → statusLength ≤ length (bytesOf (Status t x s) ++ rest)
+pub response-length : (t : ℕ) (c : ReturnCode) → length (bytesOf (Response t c)) ≡ responseLength
 unfolding bytesOf
-status-length t x s rest =
-    cond-ind (λ l. 26 ≤ length (smsCode ∷ scsiStatus ∷ t / 256 ∷ t % 256 ∷ x .0 ∷ 0 ∷ 0 ∷ 0 ∷ l ++ rest)) (eqb (x .0) (checkCondition .0)) (λ _. omega arith) (λ _. omega arith)
+response-length t c = refl
+
+pub status-length : (t : ℕ) (x : StatusByte) (s : Sense) → length (bytesOf (Status t x s)) ≡ statusLength
+unfolding bytesOf
+status-length t x s =
+    cond-ind (λ l. length (smsCode ∷ scsiStatus ∷ t / 256 ∷ t % 256 ∷ x .0 ∷ 0 ∷ 0 ∷ 0 ∷ l) ≡ statusLength) (eqb (x .0) (checkCondition .0))
+    (λ _. refl) (λ _. refl)
+
+pub no-reply-is-longer : NoReplyIsLonger
+no-reply-is-longer (Response t c) = omega (arith, response-length t c)
+no-reply-is-longer (Status t x s) = omega (arith, status-length t x s)
 
 read-back : (r : Reply) (rest : List ℕ) → writableOf r ≡ true → found.Reply r ≡ foundIn (bytesOf r ++ rest)
 unfolding bytesOf
 read-back (Response t c) rest w =
     whole-response _ (omega arith) refl refl (omega arith) (response-fields t c rest) (fits-itself (Response t c) rest w)
 read-back (Status t x s) rest w =
-    whole-status _ (omega arith) refl (λ e. eqb-false 17 3 refl e) refl (status-length t x s rest)
+    whole-status _ (omega arith) refl (λ e. eqb-false 17 3 refl e) refl (omega (arith, length-append (bytesOf (Status t x s)) rest, status-length t x s))
     (status-fields t x s rest _ refl w) (fits-itself (Status t x s) rest w)
 
 -- the writer's answer says which way it went
@@ -132,16 +134,9 @@ module _ (b : List ℕ) (r : Reply) where
       (λ _. no notWritable)
 
 stands-there : (b : List ℕ) (r : Reply) → Good b r (foundIn b)
-unfolding foundIn
 stands-there b r =
-    let G : Found → Type 0 = Good b r in
-    cond-ind G (ltb (length b) 2) (λ _. no b r tooShort)
-    (λ _. cond-ind G (not (eqb (byte b 0) smsCode)) (λ _. no b r notHandled)
-    (λ _. cond-ind G (eqb (byte b 1) scsiResponse)
-    (λ _. cond-ind G (ltb (length b) responseLength) (λ _. no b r tooShort) (λ _. yes b r (asResponse b)))
-    (λ _. cond-ind G (eqb (byte b 1) scsiStatus)
-    (λ _. cond-ind G (ltb (length b) statusLength) (λ _. no b r tooShort) (λ _. yes b r (asStatus b)))
-    (λ _. no b r notHandled))))
+    each-finding (Good b r) b (no b r tooShort) (λ _ _. no b r notHandled)
+    (λ _ _ _ _. yes b r (asResponse b)) (λ _ _ _ _ _. yes b r (asStatus b)) (λ _ _ _ _. no b r notHandled)
 
 pub writes-what-was-read : WritesWhatWasRead
 unfolding writtenOf leftOf

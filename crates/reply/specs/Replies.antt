@@ -4,7 +4,9 @@ use mathlib.Core.List.{List, [], _∷_}
 use mathlib.Core.Bool.{Bool, false, cond, _&&_, _||_}
 use lib.ListN.{replicate}
 use lib.Dec.{leb, eqb}
-use Rattle.wire.specs.Paper.{smsCode, scsiResponse, scsiStatus, done, taskNotFound, overlapped, noAca, invalidField, good, checkCondition, conditionMet, reservationConflict, taskSetFull, acaActive}
+use Rattle.wire.specs.Paper.{smsCode, scsiResponse, scsiStatus, currentError, additionalSenseLength}
+use Rattle.wire.specs.Paper.{done, taskNotFound, overlapped, noAca, invalidField}
+use Rattle.wire.specs.Paper.{good, checkCondition, conditionMet, reservationConflict, taskSetFull, acaActive}
 use Rattle.wire.specs.declared.codes.Sense.{Sense}
 use Rattle.reply.specs.declared.Reply.{Reply}
 use Rattle.reply.specs.declared.Reply.the-variants.{Response, Status}
@@ -34,10 +36,10 @@ writableOf (Status tag status sense) =
 
 -- ---- the bytes
 
--- table 10, bytes 8 to 25: a current error (70h), VALID clear, SENSE KEY at 10, ADDITIONAL SENSE LENGTH 0Ah at 15, code and qualifier at 20 and 21
+-- table 10, bytes 8 to 25: a current error, VALID clear, SENSE KEY at 10, ADDITIONAL SENSE LENGTH at 15, code and qualifier at 20 and 21
 abbrev pub senseBytes : Sense → List ℕ
 senseBytes s =
-    0x70 ∷ 0 ∷ s .key ∷ 0 ∷ 0 ∷ 0 ∷ 0 ∷ 0x0a ∷ 0 ∷ 0 ∷ 0 ∷ 0 ∷ s .code ∷ s .qualifier ∷ 0 ∷ 0 ∷ 0 ∷ 0 ∷ []
+    currentError ∷ 0 ∷ s .key ∷ 0 ∷ 0 ∷ 0 ∷ 0 ∷ additionalSenseLength ∷ 0 ∷ 0 ∷ 0 ∷ 0 ∷ s .code ∷ s .qualifier ∷ 0 ∷ 0 ∷ 0 ∷ 0 ∷ []
 
 -- RESPONSE by table 20: 5 bytes. STATUS by table 7: STATUS at 4, FLAG and LINK 0, RETURN CODE 00h at 6, sense with 02h and else 18 zero bytes
 unfoldable pub bytesOf : Reply → List ℕ

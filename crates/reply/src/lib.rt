@@ -2,8 +2,14 @@
 ghost use mathlib.Core.Path.{_≡_};
 ghost use Rattle.reply.specs.Replies.{oneOf, responseCodes, plainStatuses, isNone, writableOf, bytesOf};
 ghost use Rattle.reply.specs.Calls.{Writes, startsWith, fitted, asResponse, asStatus, foundIn};
+use wire::codes::ADDITIONAL_SENSE_LENGTH;
+use wire::codes::CURRENT_ERROR;
+use wire::codes::REPLY_ROOM;
 use wire::codes::Refusal;
 use wire::codes::ReturnCode;
+use wire::codes::SCSI_RESPONSE;
+use wire::codes::SCSI_STATUS;
+use wire::codes::SMS_CODE;
 use wire::codes::Sense;
 use wire::codes::StatusByte;
 use wire::fields::byte_at;
@@ -33,15 +39,7 @@ pub enum Found {
     Refused(Refusal),
 }
 
-const SMS_CODE: u8 = 0x83;
-
-const SCSI_RESPONSE: u8 = 0x03;
-
-const SCSI_STATUS: u8 = 0x11;
-
-// The buffer that is asked for, and the length of each reply.
-const REPLY_ROOM: usize = 64;
-
+// The length of each reply.
 const RESPONSE_LENGTH: usize = 5;
 
 const STATUS_LENGTH: usize = 26;
@@ -140,9 +138,9 @@ fn status_bytes(tag: u16, status: StatusByte, s: Sense) -> [u8; 26]
     if status.0 != StatusByte::CHECK_CONDITION.0 {
         return b;
     }
-    b[8] = 0x70;
+    b[8] = CURRENT_ERROR;
     b[10] = s.key;
-    b[15] = 0x0a;
+    b[15] = ADDITIONAL_SENSE_LENGTH;
     b[20] = s.code;
     b[21] = s.qualifier;
     b

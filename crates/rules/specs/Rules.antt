@@ -1,5 +1,5 @@
 -- A command, step by step: page 01's list of eleven rules, line by line. Rule 1's four lines stand apart; the fourth is that the others go on.
-use Prim.Native.Nat.{ℕ, _+_}
+use Prim.Native.Nat.{ℕ, _+_, _/_, _%_}
 use mathlib.Core.Bool.{Bool, true, false, cond, not, _&&_, _||_}
 use mathlib.Core.List.{List, [], _∷_, _++_}
 use lib.ListN.{length}
@@ -35,7 +35,8 @@ isCleared attention.Nothing = false
 isCleared attention.Reset = false
 isCleared attention.Cleared = true
 
--- about its task with a tag and about a unit; who else would lose a task on the unit is asked only for CLEAR TASK SET
+-- about its task with a tag and about a unit. Who else would lose a task on the unit is asked only with CLEAR TASK SET, the one order that looks at it:
+-- a walk over all records for each path, that no other message pays for
 unfoldable pub factsOf : Table → ℕ → ℕ → ℕ → Bool → Facts
 factsOf t p tag lun clears = record {
   marked = pathAt t p .full;
@@ -73,7 +74,7 @@ stray f g = not (f .aca) && asksAca g
 
 -- first CDB byte 12h (INQUIRY) or 03h (REQUEST SENSE)
 unfoldable pub passesAttention : List ℕ → Bool
-passesAttention m = eqb (opcode m) 0x12 || eqb (opcode m) 0x03
+passesAttention m = eqb (opcode m) Paper.inquiry || eqb (opcode m) Paper.requestSense
 
 unfoldable pub resetPending : Facts → List ℕ → Bool
 resetPending f m = isReset (f .attention) && not (passesAttention m)
@@ -81,10 +82,14 @@ resetPending f m = isReset (f .attention) && not (passesAttention m)
 unfoldable pub clearedPending : Facts → List ℕ → Bool
 clearedPending f m = isCleared (f .attention) && not (passesAttention m)
 
--- the first reserved field that is not zero
+-- the first of some fields that is not zero, 0 where all are
+abbrev pub firstSet : List ℕ → ℕ
+firstSet [] = 0
+firstSet (x ∷ xs) = cond (eqb x 0) (firstSet xs) x
+
+-- the first reserved field that is not zero: byte 9, bits 3 and 2 of byte 10, bytes 11, 14 and 15
 abbrev pub reservedField : List ℕ → ℕ
-reservedField m =
-    cond (eqb (byte m 9) 0) (cond (eqb (byte m 11) 0) (cond (eqb (byte m 14) 0) (cond (eqb (byte m 15) 0) (byte m 10) (byte m 15)) (byte m 14)) (byte m 11)) (byte m 9)
+reservedField m = firstSet (byte m 9 ∷ byte m 10 / 4 % 4 ∷ byte m 11 ∷ byte m 14 ∷ byte m 15 ∷ [])
 
 -- ---- the list: number, when, the field value behind it, the answer with what it does to the sender's mark and attention
 

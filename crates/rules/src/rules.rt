@@ -14,7 +14,9 @@ use task::select::Place;
 use task::select::Selection;
 use task::select::Sort;
 use task::select::Whose;
+use wire::codes::INQUIRY;
 use wire::codes::Queue;
+use wire::codes::REQUEST_SENSE;
 use wire::codes::Refusal;
 use wire::codes::ReturnCode;
 use wire::codes::Sense;
@@ -23,22 +25,31 @@ use wire::message::Flags;
 
 // What the rules ask of the table, so that no table travels through them.
 pub struct Facts {
+    // The sender's buffer-full mark and pending attention.
     pub marked: bool,
     pub attention: Attention,
+    // A record is free and an arrival number is left.
     pub room: bool,
+    // A live task has the sender's path and the tag.
     pub taken: bool,
+    // The unit is attached, has ACA, the sender owns it, an ACA task is live there.
     pub attached: bool,
     pub aca: bool,
     pub owned: bool,
     pub busy: bool,
+    // The map of the other paths that have a task on the unit.
     pub losers: u8,
 }
 
 // What an answer does to the sender's mark and attention.
 pub enum Mood {
+    // Both stay: RESUME set, path not marked.
     Stay,
+    // No room: the path is marked or stays so.
     Mark,
+    // Rule 2 is passed: the mark is cleared.
     Unmark,
+    // The pending attention is reported: the mark is cleared, and attention becomes none.
     Attend,
 }
 
@@ -175,10 +186,10 @@ fn passes_attention(m: &[u8]) -> bool
     ensures { λ r. ⌜ r ≡ passesAttention (now (m .entry)) ⌝ }
 {
     let first = wire::fields::byte_at(m, 16);
-    if first == 0x12 {
+    if first == INQUIRY {
         return true;
     }
-    first == 0x03
+    first == REQUEST_SENSE
 }
 
 fn reset_pending(f: Facts, m: &[u8]) -> bool

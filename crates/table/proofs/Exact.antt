@@ -2,8 +2,9 @@
 use Prim.Native.Nat.{ℕ, _≤_, _<_}
 use mathlib.Core.Path.{_≡_, refl, sym, ap, _∙_}
 use mathlib.Core.Bool.{Bool, true, false, not, _&&_, _||_, or-true}
+use mathlib.Core.List.{List}
 use mathlib.Core.Option.{none, some}
-use mathlib.Core.Logic.{_⊎_, inl, inr}
+use mathlib.Core.Logic.{inl, inr}
 use native.Mathlib.Omega.{arith}
 use lib.Dec.{eqb, ltb, leb}
 use borrow.Author.Tests.{ltb-true, ltb-false, leb-true, eqb-true, eqb-false, not-true, lt-ltb, le-ltb, le-leb, eq-eqb, ne-eqb}
@@ -14,10 +15,10 @@ use Rattle.task.specs.declared.Kind.the-variants as kind
 use Rattle.task.specs.declared.Phase.{Phase}
 use Rattle.task.specs.declared.Phase.the-variants as phase
 use Rattle.task.specs.declared.Task.{Task}
-use Rattle.task.proofs.Ways.{either-way, never, both}
+use Rattle.task.proofs.Ways.{either-way, never, both, either}
 use Rattle.task.proofs.Places.{lt-or-le, all-at, all-of, none-at, some-none, first-is}
-use Rattle.table.specs.Tables.{noPath, pathAt, unitAt, taskAt, isAttached, isNothing, hasId, placeOf, pathOf}
-use Rattle.table.specs.Sound.{Sound, isNoPath, isNoTask, ownedBy, mayStand, liveOk, countOk, pathsDistinct, unusedZero, recordsOk, unitsOk, shareUnit, alike, clashes, soundOf}
+use Rattle.table.specs.Tables.{noPath, pathAt, unitAt, taskAt, bitOf, isAttached, isNothing, hasId, placeOf, pathOf}
+use Rattle.table.specs.Sound.{Sound, isNoPath, isNoTask, ownedBy, mayStand, liveOk, acaAt, countOk, pathsDistinct, unusedZero, recordsOk, unitsOk, shareUnit, alike, clashes, soundOf}
 use Rattle.table.specs.View.{at}
 use Rattle.table.specs.Promises.{CheckIsExact}
 use Rattle.table.specs.declared.Attention.{Attention}
@@ -25,13 +26,10 @@ use Rattle.table.specs.declared.Attention.the-variants as attention
 use Rattle.table.specs.declared.Aca.{Aca}
 use Rattle.table.specs.declared.Aca.the-variants.{Clear, Owned}
 use Rattle.table.specs.declared.Path as path
+use Rattle.table.specs.declared.Unit as unit
 use Rattle.table.specs.declared.Table.{Table}
 use Rattle.table.proofs.Views.{not-both, at-live, at-dead, live-at}
 use Rattle.table.proofs.Checking.{firstWithId, usedOrZero, recordFine, unitFine, clashAt, clashBelow}
-
-either : (b c : Bool) → (b || c) ≡ true → (b ≡ true) ⊎ (c ≡ true)
-either true c h = inl refl
-either false c h = inr h
 
 second : (b c : Bool) → b ≡ false → (b || c) ≡ true → c ≡ true
 second b c e h = rw e at h
@@ -94,13 +92,6 @@ turned (same-arrival p) = same-arrival (sym p)
 turned (both-run h l p) = both-run l h (sym p)
 turned (both-aca h l p) = both-aca l h (sym p)
 
--- in a sound table they are one record
-pub one : (t : Table) → Sound t → (i j : ℕ) (a b : Task) → i < 64 → j < 64 → at t i ≡ some a → at t j ≡ some b → Clash a b → i ≡ j
-one t s i j a b l m e f (same-name p q) = s .one-tag i j a b l m e f p q
-one t s i j a b l m e f (same-arrival p) = s .one-arrival i j a b l m e f p
-one t s i j a b l m e f (both-run h k p) = s .one-running i j a b l m e f h k p
-one t s i j a b l m e f (both-aca h k p) = s .one-aca i j a b l m e f h k p
-
 -- what the check calls alike is that, and no more
 module _ (a b : Task) where
   on-unit : a .unit ≡ b .unit → shareUnit a b ≡ true → alike a b ≡ true
@@ -131,11 +122,14 @@ module _ (a b : Task) where
 -- ---- a live task by itself
 
 -- its path is listed, its unit attached, its arrival number below the next, and an ACA task's path owns the unit's ACA
-record InOrder (t : Table) (a : Task) : Type 0 where
-  listed : a .path < t .count
-  attached : isAttached t (a .unit) ≡ true
-  below : a .arrival < t .next
-  owned : isAca (a .kind) ≡ true → unitAt t (a .unit) .aca ≡ Owned (a .path)
+pub record InOrder (count mask : ℕ) (units : List unit.Unit) (next : ℕ) (a : Task) : Type 0 where
+  pub listed : a .path < count
+  pub attached : bitOf mask (a .unit) ≡ true
+  pub below : a .arrival < next
+  pub owned : isAca (a .kind) ≡ true → acaAt units (a .unit) ≡ Owned (a .path)
+
+abbrev pub orderIn : Table → ℕ → Task → Type 0
+orderIn t next a = InOrder (t .count) (t .attached) (t .units) next a
 
 owner-is : (aca : Aca) (p : ℕ) → ownedBy aca p ≡ true → aca ≡ Owned p
 owner-is Clear p h = absurd (never h refl)
@@ -145,7 +139,7 @@ module _ (t : Table) (a : Task) where
   abbrev orderOk : Bool
   orderOk = liveOk (t .next) (t .count) (t .attached) (unitAt t (a .unit) .aca) a
 
-  in-order : orderOk ≡ true → InOrder t a
+  in-order : orderOk ≡ true → orderIn t (t .next) a
   in-order h =
       let f = both _ _ h in
       let g = both _ _ (f .1) in
@@ -160,10 +154,64 @@ module _ (t : Table) (a : Task) where
   may-stand : (isAca (a .kind) ≡ true → unitAt t (a .unit) .aca ≡ Owned (a .path)) → mayStand (unitAt t (a .unit) .aca) a ≡ true
   may-stand f = elim (either-way (isAca (a .kind))) [ inl h ↦ rw (h, f h) (eq-eqb (a .path) (a .path) refl) | inr h ↦ rw h ]
 
-  order-ok : InOrder t a → orderOk ≡ true
+  order-ok : orderIn t (t .next) a → orderOk ≡ true
   order-ok s = rw (lt-ltb (a .path) (t .count) (s .listed), s .attached, lt-ltb (a .arrival) (t .next) (s .below)) (may-stand (s .owned))
 
--- ---- each clause, from the part of the check that asks for it
+-- ---- sound, by what holds of each live task, of two that can't both be live, and of each ACA
+
+pub record Parts (t : Table) : Type 0 where
+  pub some-path : 1 ≤ t .count
+  pub eight-at-most : t .count ≤ 8
+  pub distinct : (p q : ℕ) → p < t .count → q < t .count → pathAt t p .id ≡ pathAt t q .id → p ≡ q
+  pub dead-zero : (i : ℕ) → i < 64 → at t i ≡ none → taskAt t i ≡ noTask
+  pub unused-zero : (p : ℕ) → t .count ≤ p → p < 8 → pathAt t p ≡ noPath
+  pub order : (i : ℕ) (a : Task) → i < 64 → at t i ≡ some a → orderIn t (t .next) a
+  pub apart : (i j : ℕ) (a b : Task) → i < 64 → j < 64 → at t i ≡ some a → at t j ≡ some b → Clash a b → i ≡ j
+  pub owner : (u p : ℕ) → u < 8 → unitAt t u .aca ≡ Owned p → (isAttached t u ≡ true) × (p < t .count)
+
+pub sound-by : (t : Table) → Parts t → Sound t
+sound-by t s = record {
+  some-path = s .some-path;
+  eight-at-most = s .eight-at-most;
+  distinct = s .distinct;
+  dead-zero = s .dead-zero;
+  unused-zero = s .unused-zero;
+  listed = λ i a l e. s .order i a l e .listed;
+  attached = λ i a l e. s .order i a l e .attached;
+  one-tag = λ i j a b l m e f p q. s .apart i j a b l m e f (same-name p q);
+  one-arrival = λ i j a b l m e f p. s .apart i j a b l m e f (same-arrival p);
+  below-next = λ i a l e. s .order i a l e .below;
+  one-running = λ i j a b l m e f h n p. s .apart i j a b l m e f (both-run h n p);
+  aca-attached = λ u p l e. s .owner u p l e .0;
+  aca-listed = λ u p l e. s .owner u p l e .1;
+  aca-owned = λ i a l e. s .order i a l e .owned;
+  one-aca = λ i j a b l m e f h n p. s .apart i j a b l m e f (both-aca h n p);
+}
+
+pub parts : (t : Table) → Sound t → Parts t
+parts t s = record {
+  some-path = s .some-path;
+  eight-at-most = s .eight-at-most;
+  distinct = s .distinct;
+  dead-zero = s .dead-zero;
+  unused-zero = s .unused-zero;
+  order = λ i a l e. record {
+    listed = s .listed i a l e;
+    attached = s .attached i a l e;
+    below = s .below-next i a l e;
+    owned = s .aca-owned i a l e;
+  };
+  apart = one;
+  owner = λ u p l e. (s .aca-attached u p l e, s .aca-listed u p l e);
+}
+  where
+    one : (i j : ℕ) (a b : Task) → i < 64 → j < 64 → at t i ≡ some a → at t j ≡ some b → Clash a b → i ≡ j
+    one i j a b l m e f (same-name p q) = s .one-tag i j a b l m e f p q
+    one i j a b l m e f (same-arrival p) = s .one-arrival i j a b l m e f p
+    one i j a b l m e f (both-run h k p) = s .one-running i j a b l m e f h k p
+    one i j a b l m e f (both-aca h k p) = s .one-aca i j a b l m e f h k p
+
+-- ---- each part, from the part of the check that asks for it
 
 module _ (t : Table) where
   some-path : countOk t ≡ true → 1 ≤ t .count
@@ -189,7 +237,7 @@ module _ (t : Table) where
   unfolding recordsOk
   dead-zero h i l e = task-zero _ (rw (dead-at t i e) at (all-at 64 i (recordFine t) h l))
 
-  live-in-order : recordsOk t ≡ true → (i : ℕ) (a : Task) → i < 64 → at t i ≡ some a → InOrder t a
+  live-in-order : recordsOk t ≡ true → (i : ℕ) (a : Task) → i < 64 → at t i ≡ some a → orderIn t (t .next) a
   unfolding recordsOk
   live-in-order h i a l e =
       let v = live-at t i e in
@@ -218,9 +266,9 @@ module _ (t : Table) where
     | inr n ↦ elim (lt-or-le j i) [ inl k ↦ absurd (no-clash-below h i j a b l k e f r) | inr k ↦ omega arith ]
   ]
 
--- ---- each part of the check, from the clauses
+-- ---- each part of the check, from the parts
 
-module _ (t : Table) (s : Sound t) where
+module _ (t : Table) (s : Parts t) where
   count-ok : countOk t ≡ true
   unfolding countOk
   count-ok = rw (ne-eqb (t .count) 0 (λ e. absurd (omega (arith, s .some-path))), le-leb (t .count) 8 (s .eight-at-most))
@@ -249,25 +297,17 @@ module _ (t : Table) (s : Sound t) where
   unused-ok = all-of 8 (usedOrZero t) (λ p l.
       elim (either-way (ltb p (t .count))) [ inl h ↦ rw h | inr h ↦ rw (h, s .unused-zero p (ltb-false _ _ h) l) ])
 
-  order-at : (i : ℕ) (a : Task) → i < 64 → at t i ≡ some a → InOrder t a
-  order-at i a l e = record {
-    listed = s .listed i a l e;
-    attached = s .attached i a l e;
-    below = s .below-next i a l e;
-    owned = s .aca-owned i a l e;
-  }
-
   records-ok : recordsOk t ≡ true
   unfolding recordsOk
   records-ok = all-of 64 (recordFine t) (λ i l.
       elim (either-way (isLive (t .live) i)) [
-        | inl h ↦ rw h (order-ok t (taskAt t i) (order-at i (taskAt t i) l (at-live t i h)))
+        | inl h ↦ rw h (order-ok t (taskAt t i) (s .order i (taskAt t i) l (at-live t i h)))
         | inr h ↦ rw (h, s .dead-zero i l (at-dead t i h))
       ])
 
   unit-ok : (u : ℕ) → u < 8 → (aca : Aca) → unitAt t u .aca ≡ aca → unitFine t u ≡ true
   unit-ok u l Clear e = rw e
-  unit-ok u l (Owned p) e = rw (e, lt-ltb p (t .count) (s .aca-listed u p l e), s .aca-attached u p l e)
+  unit-ok u l (Owned p) e = let o = s .owner u p l e in rw (e, lt-ltb p (t .count) (o .1), o .0)
 
   units-ok : unitsOk t ≡ true
   unfolding unitsOk
@@ -279,7 +319,7 @@ module _ (t : Table) (s : Sound t) where
         let f = both _ _ h in
         let g = both _ _ (f .0) in
         let r = alike-clash (taskAt t i) (taskAt t j) (f .1) in
-        let q : i ≡ j = one t s i j (taskAt t i) (taskAt t j) l (omega arith) (at-live t i (g .0)) (at-live t j (g .1)) r in
+        let q : i ≡ j = s .apart i j (taskAt t i) (taskAt t j) l (omega arith) (at-live t i (g .0)) (at-live t j (g .1)) r in
         absurd (omega arith)
     | inr h ↦ h
   ]
@@ -298,30 +338,23 @@ passed t h =
     let unused = both (unusedZero t) _ (paths .1) in
     let records = both (recordsOk t) _ (unused .1) in
     let units = both (unitsOk t) _ (records .1) in
-    let apart = alone t (not-true (clashes t) (units .1)) in
     let eight = eight-at-most t (count .0) in
-    let order = live-in-order t (records .0) in
-    record {
+    sound-by t
+    (record {
       some-path = some-path t (count .0);
       eight-at-most = eight;
       distinct = distinct t eight (paths .0);
       dead-zero = dead-zero t (records .0);
       unused-zero = unused-zero t (unused .0);
-      listed = λ i a l e. order i a l e .listed;
-      attached = λ i a l e. order i a l e .attached;
-      one-tag = λ i j a b l m e f p q. apart i j a b l m e f (same-name p q);
-      one-arrival = λ i j a b l m e f p. apart i j a b l m e f (same-arrival p);
-      below-next = λ i a l e. order i a l e .below;
-      one-running = λ i j a b l m e f h n p. apart i j a b l m e f (both-run h n p);
-      aca-attached = λ u p l e. owner-ok t (units .0) u p l e .0;
-      aca-listed = λ u p l e. owner-ok t (units .0) u p l e .1;
-      aca-owned = λ i a l e. order i a l e .owned;
-      one-aca = λ i j a b l m e f h n p. apart i j a b l m e f (both-aca h n p);
-    }
+      order = live-in-order t (records .0);
+      apart = alone t (not-true (clashes t) (units .1));
+      owner = owner-ok t (units .0);
+    })
 
 passes : (t : Table) → Sound t → soundOf t ≡ true
 unfolding soundOf
-passes t s = rw (count-ok t s, paths-distinct t s, unused-ok t s, records-ok t s, units-ok t s, no-clash t s)
+passes t s =
+    let p = parts t s in rw (count-ok t p, paths-distinct t p, unused-ok t p, records-ok t p, units-ok t p, no-clash t p)
 
 pub check-is-exact : CheckIsExact
 check-is-exact t = (passed t, passes t)

@@ -1,7 +1,7 @@
 -- Setup gives a good table, each change keeps a table good, and total reset gives what setup gives. Assumes nothing.
 use Prim.Native.Nat.{ℕ, zero, suc, _+_, _-_, _^_, _≤_, _<_}
 use mathlib.Core.Path.{_≡_, refl, sym, ap, _∙_}
-use mathlib.Core.Bool.{Bool, true, false, cond, _&&_, _||_}
+use mathlib.Core.Bool.{Bool, true, false, cond, _&&_}
 use mathlib.Core.List.{List, [], _∷_}
 use mathlib.Core.Option.{none, some}
 use mathlib.Core.Logic.{_⊎_, inl, inr, ⊎-elim}
@@ -10,7 +10,7 @@ use native.Mathlib.Omega.{arith}
 use lib.Dec.{eqb, ltb}
 use lib.ListN.{length, getD, set, replicate, length-append, length-set, length-replicate, List·getD-append}
 use lib.Seq.{getD-set-same, getD-set-other, getD-append-add}
-use borrow.Author.Tests.{lt-ltb, le-ltb, ltb-true, ltb-false, leb-true, eq-eqb, eqb-false}
+use borrow.Author.Tests.{lt-ltb, le-ltb, ltb-true, ltb-false, leb-true, eq-eqb, ne-eqb, eqb-false}
 use Rattle.task.specs.Index.{some as someBelow, mapAt}
 use Rattle.task.specs.Tasks.{noTask, isAca}
 use Rattle.task.specs.Map.{isLive, lowestFree, withBit}
@@ -18,8 +18,8 @@ use Rattle.task.specs.Selections.{picks, named, acaOn, runningOn, runningAs}
 use Rattle.task.specs.declared.Kind.{Kind}
 use Rattle.task.specs.declared.Task.{Task}
 use Rattle.task.specs.declared.select.Place.the-variants.{Anywhere, On}
-use Rattle.task.proofs.Ways.{either-way, never, cond-ind, both}
-use Rattle.task.proofs.Places.{lt-or-le, none-at}
+use Rattle.task.proofs.Ways.{either-way, never, cond-ind, both, neither}
+use Rattle.task.proofs.Places.{lt-or-le, some-none, none-at}
 use Rattle.task.proofs.Bits.{mapOf-lt, live-mapOf}
 use Rattle.task.proofs.Maps.{with-lt}
 use Rattle.task.proofs.Lists.{length-mapAt, getD-mapAt, is-mapAt}
@@ -28,13 +28,14 @@ use Rattle.table.specs.Tables.{noPath, noUnit, pathAt, unitAt, taskAt, i
 use Rattle.table.specs.Setup.{seenBefore, badList, freshPath, freshPaths, pathsOf, freshTable, setupTable}
 use Rattle.table.specs.Sound.{Sound}
 use Rattle.table.specs.View.{at}
-use Rattle.table.specs.Promises.{Good, SetupIsGood, MayCome, AcceptKeeps, EndKeeps, StartKeeps, ClaimKeeps, ClearKeeps, MarkKeeps, AttendKeeps, AlarmKeeps, WarnKeeps, ResetKeeps, ResetIsSetup}
+use Rattle.table.specs.Promises.{Good, FreshIsGood, MayCome, AcceptKeeps, EndKeeps, StartedKeeps, ClaimKeeps, ClearKeeps, MarkKeeps, AttendKeeps, AlarmKeeps, WarnKeeps, ResetOfKeeps, ResetIsSetup}
 use Rattle.table.specs.declared.Aca.{Aca}
 use Rattle.table.specs.declared.Aca.the-variants.{Clear, Owned}
 use Rattle.table.specs.declared.Path as path
 use Rattle.table.specs.declared.Unit as unit
 use Rattle.table.specs.declared.Table.{Table}
-use Rattle.table.proofs.Exact.{Clash, same-name, same-arrival, both-run, both-aca, turned, one}
+use Rattle.table.proofs.Exact.{Clash, same-name, same-arrival, both-run, both-aca, turned, orderIn, sound-by, parts}
+use Rattle.table.proofs.Setting.{few-ids}
 use Rattle.table.proofs.Views.{not-both, at-live, at-dead, at-empty, at-put, at-put-other, ended-task, ran, at-started, at-started-other, at-fresh, withNext, idsOf, ids-at, ids-length, ids-marked, ids-attended, ids-alarmed, ids-warned, none-any, any-empty, ended-from, ended-to}
 
 getD-same : {A : Type 0} (n i : ℕ) (d : A) → getD (replicate n d) i d ≡ d
@@ -46,14 +47,12 @@ getD-same (suc n) (suc i) d = getD-same n i d
 
 -- what unit u of t may have: an ACA only where it is attached, with a listed owner, and the owner's where it has an ACA task
 pub record MayHave (t : Table) (u : ℕ) (aca : Aca) : Type 0 where
-  pub attached : (p : ℕ) → u < 8 → aca ≡ Owned p → isAttached t u ≡ true
-  pub listed : (p : ℕ) → u < 8 → aca ≡ Owned p → p < t .count
+  pub owner : (p : ℕ) → u < 8 → aca ≡ Owned p → (isAttached t u ≡ true) × (p < t .count)
   pub owned : (i : ℕ) (a : Task) → i < 64 → at t i ≡ some a → isAca (a .kind) ≡ true → a .unit ≡ u → aca ≡ Owned (a .path)
 
 pub may-stay : (t : Table) → Good t → (u : ℕ) → MayHave t u (unitAt t u .aca)
 may-stay t g u = record {
-  attached = g .sound .aca-attached u;
-  listed = g .sound .aca-listed u;
+  owner = parts t (g .sound) .owner u;
   owned = λ i a b e f q. rw (← q) (g .sound .aca-owned i a b e f);
 }
 
@@ -63,26 +62,22 @@ pub rest-keep : (t : Table) (ps : List path.Path) (us : List unit.Unit) → leng
     → length us ≡ 8 → ((u : ℕ) → MayHave t u (getD us u noUnit .aca)) → Good t → Good (withUnits (withPaths t ps) us)
 unfolding at
 rest-keep t ps us h id z k m g =
-    let s = g .sound in
+    let s = parts t (g .sound) in
     record {
       shaped = record { map = g .shaped .map; next = g .shaped .next; paths = h; units = k; tasks = g .shaped .tasks };
-      sound = record {
-        some-path = s .some-path;
-        eight-at-most = s .eight-at-most;
-        distinct = λ p q b c f. s .distinct p q b c (sym (id p b) ∙ f ∙ id q c);
-        dead-zero = s .dead-zero;
-        unused-zero = z;
-        listed = s .listed;
-        attached = s .attached;
-        one-tag = s .one-tag;
-        one-arrival = s .one-arrival;
-        below-next = s .below-next;
-        one-running = s .one-running;
-        aca-attached = λ u. m u .attached;
-        aca-listed = λ u. m u .listed;
-        aca-owned = λ i a b f c. m (a .unit) .owned i a b f c refl;
-        one-aca = s .one-aca;
-      };
+      sound = sound-by (withUnits (withPaths t ps) us)
+          (record {
+            some-path = s .some-path;
+            eight-at-most = s .eight-at-most;
+            distinct = λ p q b c f. s .distinct p q b c (sym (id p b) ∙ f ∙ id q c);
+            dead-zero = s .dead-zero;
+            unused-zero = z;
+            order = λ i a b f.
+                let o = s .order i a b f in
+                record { listed = o .listed; attached = o .attached; below = o .below; owned = λ c. m (a .unit) .owned i a b f c refl };
+            apart = s .apart;
+            owner = λ u. m u .owner;
+          });
     }
 
 pub paths-keep : (t : Table) (l : List path.Path) → length l ≡ 8 → ((p : ℕ) → p < t .count → getD l p noPath .id ≡ pathAt t p .id)
@@ -149,16 +144,14 @@ not-owned e = let z : _≡_ {A = ℕ} 0 1 = cc in omega arith
 
 may-go : (t : Table) (u : ℕ) → anyLive t (acaOn u) ≡ false → MayHave t u Clear
 may-go t u e = record {
-  attached = λ p _ f. absurd (not-owned f);
-  listed = λ p _ f. absurd (not-owned f);
+  owner = λ p _ f. absurd (not-owned f);
   owned = λ i a b f c q. absurd (none-any t (acaOn u) e b f (picks-aca-on a u ∙ rw (eq-eqb (a .unit) u q) c));
 }
 
 may-own : (t : Table) (u path : ℕ) → isAttached t u ≡ true → path < t .count → (o : Aca) → MayHave t u o → MayHave t u (claimedUnit path (record { aca = o }) .aca)
 may-own t u path h l (Owned p) m = m
 may-own t u path h l Clear m = record {
-  attached = λ p _ _. h;
-  listed = λ p _ e. let q : path ≡ p = cc in rw q at l;
+  owner = λ p _ e. let q : path ≡ p = cc in (h, rw q at l);
   owned = λ i a b e f q. absurd (not-owned (m .owned i a b e f q));
 }
 
@@ -176,10 +169,7 @@ clear-keeps t (On unit) g n = set-keep t unit noUnit (may-go t unit n) g
 
 -- task a may be live in record k beside t's tasks in the others
 record Fits (t : Table) (next k : ℕ) (a : Task) : Type 0 where
-  listed : a .path < t .count
-  attached : isAttached t (a .unit) ≡ true
-  below : a .arrival < next
-  owned : isAca (a .kind) ≡ true → unitAt t (a .unit) .aca ≡ Owned (a .path)
+  order : orderIn t next a
   apart : (j : ℕ) (b : Task) → j < 64 → at t j ≡ some b → Clash a b → k ≡ j
 
 -- t with other tasks: those that it has, and at k one that fits
@@ -196,41 +186,34 @@ module _ (t : Table) (live next : ℕ) (l : List Task) (k : ℕ) where
     from : (i : ℕ) (a : Task) → i < 64 → at with i ≡ some a → (at t i ≡ some a) ⊎ ((i ≡ k) × Fits t next i a)
 
   module _ (g : Good t) (c : Comes) where
-    each : (P : Task → Type 0) → ((i : ℕ) (a : Task) → i < 64 → at t i ≡ some a → P a) → ((i : ℕ) (a : Task) → Fits t next i a → P a)
-        → (i : ℕ) (a : Task) → i < 64 → at with i ≡ some a → P a
-    each P old new i a b e = ⊎-elim (λ f. old i a b f) (λ f. new i a (f .1)) (c .from i a b e)
+    raised : {a : Task} → orderIn t (t .next) a → orderIn t next a
+    raised o = record { listed = o .listed; attached = o .attached; below = omega (arith, o .below, c .later); owned = o .owned }
 
     lone : (i j : ℕ) (a b : Task) → i < 64 → j < 64 → at with i ≡ some a → at with j ≡ some b → Clash a b → i ≡ j
     lone i j a b l m e f r = cases (c .from i a l e) (c .from j b m f)
       where
         cases : (at t i ≡ some a) ⊎ ((i ≡ k) × Fits t next i a) → (at t j ≡ some b) ⊎ ((j ≡ k) × Fits t next j b) → i ≡ j
-        cases (inl p) (inl q) = one t (g .sound) i j a b l m p q r
+        cases (inl p) (inl q) = parts t (g .sound) .apart i j a b l m p q r
         cases (inl p) (inr q) = sym (q .1 .apart i a l p (turned r))
         cases (inr p) (inl q) = p .1 .apart j b m q r
         cases (inr p) (inr q) = p .0 ∙ sym (q .0)
 
     tasks-good : Good with
     tasks-good =
-        let s = g .sound in
+        let s = parts t (g .sound) in
         record {
           shaped = record { map = c .map; next = c .small; paths = g .shaped .paths; units = g .shaped .units; tasks = c .long };
-          sound = record {
-            some-path = s .some-path;
-            eight-at-most = s .eight-at-most;
-            distinct = s .distinct;
-            dead-zero = c .dead;
-            unused-zero = s .unused-zero;
-            listed = each (λ a. a .path < t .count) (s .listed) (λ i a f. f .listed);
-            attached = each (λ a. isAttached t (a .unit) ≡ true) (s .attached) (λ i a f. f .attached);
-            one-tag = λ i j a b l m e f p q. lone i j a b l m e f (same-name p q);
-            one-arrival = λ i j a b l m e f p. lone i j a b l m e f (same-arrival p);
-            below-next = each (λ a. a .arrival < next) (λ i a l e. omega (arith, s .below-next i a l e, c .later)) (λ i a f. f .below);
-            one-running = λ i j a b l m e f h n p. lone i j a b l m e f (both-run h n p);
-            aca-attached = s .aca-attached;
-            aca-listed = s .aca-listed;
-            aca-owned = each (λ a. isAca (a .kind) ≡ true → unitAt t (a .unit) .aca ≡ Owned (a .path)) (s .aca-owned) (λ i a f. f .owned);
-            one-aca = λ i j a b l m e f h n p. lone i j a b l m e f (both-aca h n p);
-          };
+          sound = sound-by with
+              (record {
+                some-path = s .some-path;
+                eight-at-most = s .eight-at-most;
+                distinct = s .distinct;
+                dead-zero = c .dead;
+                unused-zero = s .unused-zero;
+                order = λ i a l e. ⊎-elim (λ f. raised (s .order i a l f)) (λ f. f .1 .order) (c .from i a l e);
+                apart = lone;
+                owner = s .owner;
+              });
         }
 
 pub end-keeps : EndKeeps
@@ -276,16 +259,18 @@ put-good t live next k a m l s here other f g =
     })
 
 run-fits : (t : Table) (k : ℕ) (a : Task) → Sound t → anyLive t (runningOn (a .unit)) ≡ false → k < 64 → at t k ≡ some a → Fits t (t .next) k (runs a)
-run-fits t k a s n l e =
-    record { listed = s .listed k a l e; attached = s .attached k a l e; below = s .below-next k a l e; owned = s .aca-owned k a l e; apart = apart }
+run-fits t k a s n l e = record { order = runs-in (parts t s .order k a l e); apart = apart }
   where
+    runs-in : orderIn t (t .next) a → orderIn t (t .next) (runs a)
+    runs-in o = record { listed = o .listed; attached = o .attached; below = o .below; owned = o .owned }
+
     apart : (j : ℕ) (b : Task) → j < 64 → at t j ≡ some b → Clash (runs a) b → k ≡ j
     apart j b m f (same-name p q) = s .one-tag k j a b l m e f p q
     apart j b m f (same-arrival p) = s .one-arrival k j a b l m e f p
     apart j b m f (both-run _ r p) = absurd (none-any t (runningOn (a .unit)) n m f (picks-running-on b (a .unit) ∙ rw (eq-eqb _ _ (sym p)) r))
     apart j b m f (both-aca h r p) = s .one-aca k j a b l m e f h r p
 
-pub start-keeps : StartKeeps
+pub start-keeps : StartedKeeps
 unfolding started
 start-keeps t k g n =
     cond-ind (λ (u : Table). (k < 64 → at u k ≡ ran (at t k)) → ((i : ℕ) → (i ≡ k → ⊥) → at u i ≡ at t i) → Good u) (ltb k 64 && isLive (t .live) k)
@@ -300,7 +285,7 @@ start-keeps t k g n =
 new-fits : (t : Table) (path tag unit : ℕ) (kind : Kind) (k : ℕ) → Sound t → MayCome t path tag unit kind
     → Fits t (t .next + 1) k (newTask t path tag unit kind)
 new-fits t path tag unit kind k s m =
-    record { listed = m .listed; attached = m .attached; below = omega arith; owned = m .owner; apart = apart }
+    record { order = record { listed = m .listed; attached = m .attached; below = omega arith; owned = m .owner }; apart = apart }
   where
     apart : (j : ℕ) (b : Task) → j < 64 → at t j ≡ some b → Clash (newTask t path tag unit kind) b → k ≡ j
     apart j b l e (same-name p q) =
@@ -350,7 +335,7 @@ wipe-good t g =
       from = λ i a _ e. absurd (not-both (at-empty (withTasks t 0 (replicate 64 noTask)) i refl) e);
     })
 
-pub reset-keeps : ResetKeeps
+pub reset-keeps : ResetOfKeeps
 unfolding resetOf acaClearedIn
 reset-keeps t g =
     let u = withTasks t 0 (replicate 64 noTask) in
@@ -358,10 +343,6 @@ reset-keeps t g =
     (clear-keeps u Anywhere (wipe-good t g) (λ unit. any-empty u (acaOn unit) refl))
 
 -- ---- setup
-
-neither : (b c : Bool) → (b || c) ≡ false → (b ≡ false) × (c ≡ false)
-neither true c e = absurd (never refl e)
-neither false c e = (refl, e)
 
 length-fresh : (ids : List ℕ) → length (freshPaths ids) ≡ length ids
 unfolding freshPaths
@@ -415,23 +396,17 @@ module _ (ids : List ℕ) where
           units = length-replicate 8 noUnit;
           tasks = length-replicate 64 noTask;
         };
-        sound = record {
-          some-path = omega arith;
-          eight-at-most = most;
-          distinct = λ p q l k e. ids-apart (m .1) p q l k (sym (id-at p l) ∙ e ∙ id-at q k);
-          dead-zero = λ i _ _. getD-same 64 i noTask;
-          unused-zero = λ p l _. unused-at p l;
-          listed = λ i a _ e. absurd (no i e);
-          attached = λ i a _ e. absurd (no i e);
-          one-tag = λ i j a c _ _ e _ _ _. absurd (no i e);
-          one-arrival = λ i j a c _ _ e _ _. absurd (no i e);
-          below-next = λ i a _ e. absurd (no i e);
-          one-running = λ i j a c _ _ e _ _ _ _. absurd (no i e);
-          aca-attached = λ u p _ e. absurd (clear u e);
-          aca-listed = λ u p _ e. absurd (clear u e);
-          aca-owned = λ i a _ e _. absurd (no i e);
-          one-aca = λ i j a c _ _ e _ _ _ _. absurd (no i e);
-        };
+        sound = sound-by (freshTable ids attached next)
+            (record {
+              some-path = omega arith;
+              eight-at-most = most;
+              distinct = λ p q l k e. ids-apart (m .1) p q l k (sym (id-at p l) ∙ e ∙ id-at q k);
+              dead-zero = λ i _ _. getD-same 64 i noTask;
+              unused-zero = λ p l _. unused-at p l;
+              order = λ i a _ e. absurd (no i e);
+              apart = λ i j a c _ _ e _ _. absurd (no i e);
+              owner = λ u p _ e. absurd (clear u e);
+            });
       }
     where
       id-at : (p : ℕ) → p < length ids → getD (pathsOf ids) p noPath .id ≡ getD ids p 0
@@ -443,15 +418,24 @@ module _ (ids : List ℕ) where
       clear : (u : ℕ) {p : ℕ} → getD (replicate 8 noUnit) u noUnit .aca ≡ Owned p → ⊥
       clear u e = not-owned (rw (getD-same 8 u noUnit) at e)
 
-pub setup-is-good : SetupIsGood
+pub setup-is-good : FreshIsGood
 unfolding setupTable
 setup-is-good ids attached next h b = rw b (fresh-good ids attached next h b)
 
 -- ---- total reset gives what setup gives
 
+-- the ids of a good table are no bad list
+ids-good : (t : Table) (ids : List ℕ) → Sound t → length ids ≡ t .count → ((p : ℕ) → p < t .count → pathAt t p .id ≡ getD ids p 0) → badList ids ≡ false
+ids-good t ids s e h =
+    sym (few-ids ids (λ z. absurd (omega (arith, s .some-path))) (omega (arith, s .eight-at-most))
+    (sym (some-none (length ids) (seenBefore ids) (λ i l. some-none i _ (λ j m. ne-eqb (getD ids i 0) (getD ids j 0) (λ q. apart i j l m q))))))
+  where
+    apart : (i j : ℕ) → i < length ids → j < i → getD ids i 0 ≡ getD ids j 0 → ⊥
+    apart i j l m q = let z : i ≡ j = s .distinct i j (omega arith) (omega arith) (h i (omega arith) ∙ q ∙ sym (h j (omega arith))) in omega arith
+
 pub reset-is-setup : ResetIsSetup
-unfolding resetOf alarmedIn freshTable
-reset-is-setup t ids g e h = λ i. record {
+unfolding resetOf alarmedIn freshTable setupTable
+reset-is-setup t ids g e h = rw (ids-good t ids (g .sound) e h) (λ i. record {
   live = 0;
   next = t .next;
   count = sym e i;
@@ -459,7 +443,7 @@ reset-is-setup t ids g e h = λ i. record {
   paths = same i;
   units = replicate 8 noUnit;
   tasks = replicate 64 noTask;
-}
+})
   where
     f : ℕ → path.Path → path.Path
     f p a = cond (ltb p (t .count)) (alarmedPath true a) a

@@ -1,12 +1,9 @@
--- The outcomes are one: each by the law that an equation determines its left side. Assumes nothing.
+-- The answers are one: each by the law that an equation determines its left side. Assumes nothing.
 use Rattle.task.proofs.Promises.{determined}
-use Rattle.table.specs.Unique.{OutcomesAreOne}
+use Rattle.table.specs.Unique.{AnswersAreOne}
 
-pub outcomes-are-one : OutcomesAreOne
-outcomes-are-one = record {
-  no-path = λ _ _. determined;
-  no-unit = λ _ _. determined;
-  bit-of = λ _ _ _ _. determined;
+pub answers-are-one : AnswersAreOne
+answers-are-one = record {
   path-of = λ _ _ _ _. determined;
   path-at = λ _ _ _ _. determined;
   unit-at = λ _ _ _ _. determined;
@@ -15,7 +12,6 @@ outcomes-are-one = record {
   attend = λ _ _ _ _. determined;
   alarm = λ _ _ _ _ _. determined;
   warn = λ _ _ _ _. determined;
-  claim = λ _ _ _ _ _. determined;
   clear-aca = λ _ _ _ _. determined;
   pick = λ _ _ _ _. determined;
   any = λ _ _ _ _. determined;
@@ -30,6 +26,7 @@ outcomes-are-one = record {
   bad-list = λ _ _ _. determined;
   zero = λ _ _. determined;
   new = λ _ _ _ _ _. determined;
+  is-no-task = λ _ _ _. determined;
   owned-by = λ _ _ _ _. determined;
   sound = λ _ _ _. determined;
 }

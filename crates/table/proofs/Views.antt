@@ -9,7 +9,7 @@ use lib.Dec.{ltb}
 use lib.ListN.{length, getD, set, length-map, List·getD-map}
 use lib.Seq.{getD-set-same, getD-set-other, map-set-same}
 use borrow.Author.Tests.{lt-ltb}
-use Rattle.task.specs.Index.{some as someBelow, mapAt}
+use Rattle.task.specs.Index.{mapAt}
 use Rattle.task.specs.Tasks.{noTask}
 use Rattle.task.specs.Map.{isLive, lowestFree}
 use Rattle.task.specs.Selections.{picks, picksLive, runningAs}
@@ -22,7 +22,7 @@ use Rattle.task.proofs.Places.{some-at, some-find}
 use Rattle.task.proofs.Bits.{dead-zero, live-mapOf}
 use Rattle.task.proofs.Maps.{with-same, with-other, lowest-free}
 use Rattle.task.proofs.Lists.{getD-mapAt}
-use Rattle.task.proofs.Next.{scan-stands, found-is-some}
+use Rattle.task.proofs.Next.{scan-stands}
 use Rattle.table.specs.Tables.{noPath, zeroTable, taskAt, bitOf, isReset, picksAt, anyLive, pickOf, hasRoom, withPaths, withUnits, putAt, newTask, accepted, endedBy, runs, started, markedIn, attendedIn, alarmedIn, warnedIn, claimedIn, finished, resetOf}
 use Rattle.table.specs.Setup.{badList, freshTable, setupTable}
 use Rattle.table.specs.Sound.{Shaped}
@@ -178,8 +178,6 @@ pub reset-ids : (t : Table) → idsOf (resetOf t .paths) ≡ idsOf (t .paths)
 unfolding resetOf
 reset-ids t = ids-alarmed (t .paths) (t .count) true
 
-pub ruleset ids-kept = (ids-marked, ids-attended, ids-alarmed, ids-warned, reset-ids)
-
 -- paths and units are not asked for the tasks
 module _ (t : Table) (paths : List path.Path) (units : List unit.Unit) where
   pub same-at : (i : ℕ) → at (withPaths (withUnits t units) paths) i ≡ at t i
@@ -189,10 +187,6 @@ module _ (t : Table) (paths : List path.Path) (units : List unit.Unit) where
   pub same-any : (s : Selection) → anyLive (withPaths (withUnits t units) paths) s ≡ anyLive t s
   unfolding anyLive
   same-any s = refl
-
-  pub same-pick : (s : Selection) → pickOf (withPaths (withUnits t units) paths) s ≡ pickOf t s
-  unfolding pickOf
-  same-pick s = refl
 
 abbrev pub withNext : Table → ℕ → ℕ → List Task → Table
 withNext t live next l = record { live = live; next = next; count = t .count; attached = t .attached; paths = t .paths; units = t .units; tasks = l }
@@ -271,10 +265,6 @@ module _ (t : Table) (s : Selection) where
   pub any-empty : t .live ≡ 0 → anyLive t s ≡ false
   any-empty e = any-none (λ i a f. not-both (at-empty t i e) (f .here))
 
-  pub pick-found : Shaped t → pickOf t s .found ≡ anyLive t s
-  unfolding pickOf anyLive
-  pick-found h = subst (λ (n : ℕ). pickOf t s .found ≡ someBelow n (picksAt t s)) (h .tasks) (found-is-some (t .live) s (t .tasks))
-
   pub pick-stands : Shaped t → pickOf t s .found ≡ true → Stands (t .live) s (t .tasks) 64 (pickOf t s)
   unfolding pickOf
   pick-stands h e = subst (λ (n : ℕ). Stands (t .live) s (t .tasks) n (pickOf t s)) (h .tasks) (scan-stands (t .live) s (t .tasks) e)
@@ -306,6 +296,3 @@ module _ (t : Table) (s : Selection) (h : Shaped t) where
       (λ i a f.
       let e = ended-from (f .below) (f .here) in
       never (w i a (record { below = f .below; here = e .0; picked = f .picked })) (e .1))
-
-  pub none-stays : anyLive (endedBy t s) s ≡ false
-  none-stays = none-left s (λ i a f. f .picked)

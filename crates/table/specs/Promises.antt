@@ -13,8 +13,10 @@ use Rattle.task.specs.declared.Task.{Task}
 use Rattle.task.specs.declared.select.Selection.{Selection}
 use Rattle.task.specs.declared.select.Place.{Place}
 use Rattle.task.specs.declared.select.Place.the-variants.{Anywhere, On}
-use Rattle.table.specs.Tables.{pathAt, unitAt, taskAt, isAttached, anyLive, hasRoom, newTask, runs, accepted, endedBy, started, resetOf, withPaths, withUnits, markedIn, attendedIn, alarmedIn, warnedIn, losersOf, claimedIn, acaClearedIn}
-use Rattle.table.specs.Setup.{badList, freshTable, setupTable}
+use Rattle.table.specs.Tables.{pathAt, unitAt, taskAt, isAttached, anyLive, hasRoom, newTask, runs, withPaths, withUnits}
+use Rattle.table.specs.Tables.{markedIn, attendedIn, alarmedIn, warnedIn, losersOf, claimedIn, acaClearedIn}
+use Rattle.table.specs.Tables.{accepted, endedBy, started, resetOf}
+use Rattle.table.specs.Setup.{badList, setupTable}
 use Rattle.table.specs.Sound.{Shaped, Sound, soundOf}
 use Rattle.table.specs.View.{weight}
 use Rattle.table.specs.declared.Aca.the-variants.{Owned}
@@ -31,8 +33,8 @@ pub record Good (t : Table) : Type 0 where
   pub shaped : Shaped t
   pub sound : Sound t
 
-abbrev pub SetupIsGood : Type 0
-SetupIsGood = (ids : List ℕ) (attached next : ℕ) → next < 2 ^ 64 → badList ids ≡ false → Good (setupTable ids attached next)
+abbrev pub FreshIsGood : Type 0
+FreshIsGood = (ids : List ℕ) (attached next : ℕ) → next < 2 ^ 64 → badList ids ≡ false → Good (setupTable ids attached next)
 
 -- a command's path and tag are free, its path is listed, its unit attached; kind ACA only for the owner of the unit's ACA with no ACA task live
 pub record MayCome (t : Table) (path tag unit : ℕ) (kind : Kind) : Type 0 where
@@ -48,8 +50,8 @@ AcceptKeeps = (t : Table) (path tag unit : ℕ) (kind : Kind) → Good t → May
 abbrev pub EndKeeps : Type 0
 EndKeeps = (t : Table) (s : Selection) → Good t → Good (endedBy t s)
 
-abbrev pub StartKeeps : Type 0
-StartKeeps = (t : Table) (i : ℕ) → Good t → anyLive t (runningOn (taskAt t i .unit)) ≡ false → Good (started t i)
+abbrev pub StartedKeeps : Type 0
+StartedKeeps = (t : Table) (i : ℕ) → Good t → anyLive t (runningOn (taskAt t i .unit)) ≡ false → Good (started t i)
 
 abbrev pub ClaimKeeps : Type 0
 ClaimKeeps = (t : Table) (unit path : ℕ) → Good t → isAttached t unit ≡ true → path < t .count → Good (withUnits t (claimedIn (t .units) unit path))
@@ -74,12 +76,13 @@ AlarmKeeps = (t : Table) (unmark : Bool) → Good t → Good (withPaths t (alarm
 abbrev pub WarnKeeps : Type 0
 WarnKeeps = (t : Table) (unit sender : ℕ) → Good t → Good (withPaths t (warnedIn (t .paths) (losersOf t unit sender)))
 
-abbrev pub ResetKeeps : Type 0
-ResetKeeps = (t : Table) → Good t → Good (resetOf t)
+abbrev pub ResetOfKeeps : Type 0
+ResetOfKeeps = (t : Table) → Good t → Good (resetOf t)
 
--- total reset gives the table that setup gives, but arrival numbers go on
+-- total reset gives the table that setup gives for the ids of the listed paths, but arrival numbers go on
 abbrev pub ResetIsSetup : Type 0
-ResetIsSetup = (t : Table) (ids : List ℕ) → Good t → length ids ≡ t .count → ((p : ℕ) → p < t .count → pathAt t p .id ≡ getD ids p 0) → resetOf t ≡ freshTable ids (t .attached) (t .next)
+ResetIsSetup = (t : Table) (ids : List ℕ) → Good t → length ids ≡ t .count → ((p : ℕ) → p < t .count → pathAt t p .id ≡ getD ids p 0)
+    → resetOf t ≡ setupTable ids (t .attached) (t .next)
 
 -- ---- what a change does to the tasks: by their weight, for any weight of tasks
 

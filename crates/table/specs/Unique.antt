@@ -1,4 +1,4 @@
--- Each public function's contract determines its outcome: two outcomes that are each what it says are equal.
+-- Each public function's contract determines its answer: two answers that are each what it says are equal. Proved in proofs/Unique.antt.
 use Prim.Native.Nat.{ℕ}
 use mathlib.Core.Bool.{Bool}
 use mathlib.Core.List.{List}
@@ -7,18 +7,17 @@ use Rattle.task.specs.declared.Kind.{Kind}
 use Rattle.task.specs.declared.Task.{Task}
 use Rattle.task.specs.declared.select.Selection.{Selection}
 use Rattle.task.specs.declared.select.Place.{Place}
-use Rattle.table.specs.Tables.{noPath, noUnit, zeroTable, pathAt, unitAt, taskAt, bitOf, isAttached, pathOf, anyLive, pickOf, hasRoom, accepted, endedBy, started, markedIn, attendedIn, alarmedIn, warnedIn, claimedIn, acaClearedIn, losersOf, finished, resetOf}
+use Rattle.table.specs.Tables.{zeroTable, pathAt, unitAt, taskAt, isAttached, pathOf, anyLive, pickOf, hasRoom}
+use Rattle.table.specs.Tables.{markedIn, attendedIn, alarmedIn, warnedIn, acaClearedIn, losersOf}
+use Rattle.table.specs.Tables.{accepted, endedBy, started, finished, resetOf}
 use Rattle.table.specs.Setup.{badList, setupTable}
-use Rattle.table.specs.Sound.{ownedBy, soundOf}
+use Rattle.table.specs.Sound.{isNoTask, ownedBy, soundOf}
 use Rattle.table.specs.declared.Aca.{Aca}
 use Rattle.table.specs.declared.Path as path
 use Rattle.table.specs.declared.Unit as unit
 use Rattle.table.specs.declared.Table.{Table}
 
-pub record OutcomesAreOne : Type 0 where
-  pub no-path : One noPath
-  pub no-unit : One noUnit
-  pub bit-of : (map i : ℕ) → One (bitOf map i)
+pub record AnswersAreOne : Type 0 where
   pub path-of : (t : Table) (id : ℕ) → One (pathOf t id)
   pub path-at : (t : Table) (p : ℕ) → One (pathAt t p)
   pub unit-at : (t : Table) (unit : ℕ) → One (unitAt t unit)
@@ -27,7 +26,6 @@ pub record OutcomesAreOne : Type 0 where
   pub attend : (paths : List path.Path) (p : ℕ) → One (attendedIn paths p)
   pub alarm : (paths : List path.Path) (count : ℕ) (unmark : Bool) → One (alarmedIn paths count unmark)
   pub warn : (paths : List path.Path) (losers : ℕ) → One (warnedIn paths losers)
-  pub claim : (units : List unit.Unit) (unit path : ℕ) → One (claimedIn units unit path)
   pub clear-aca : (units : List unit.Unit) (place : Place) → One (acaClearedIn units place)
   pub pick : (t : Table) (s : Selection) → One (pickOf t s)
   pub any : (t : Table) (s : Selection) → One (anyLive t s)
@@ -42,5 +40,6 @@ pub record OutcomesAreOne : Type 0 where
   pub bad-list : (ids : List ℕ) → One (badList ids)
   pub zero : One zeroTable
   pub new : (ids : List ℕ) (attached first : ℕ) → One (setupTable ids attached first)
+  pub is-no-task : (a : Task) → One (isNoTask a)
   pub owned-by : (aca : Aca) (path : ℕ) → One (ownedBy aca path)
   pub sound : (t : Table) → One (soundOf t)

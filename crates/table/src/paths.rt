@@ -12,7 +12,7 @@ use crate::Unit;
 use task::select::Place;
 
 // A path and a unit wiped to zero.
-pub fn no_path() -> Path
+pub(crate) fn no_path() -> Path
     ensures { λ r. ⌜ r ≡ Tables.noPath ⌝ }
 {
     Path {
@@ -22,14 +22,14 @@ pub fn no_path() -> Path
     }
 }
 
-pub fn no_unit() -> Unit
+pub(crate) fn no_unit() -> Unit
     ensures { λ r. ⌜ r ≡ Tables.noUnit ⌝ }
 {
     Unit { aca: Aca::Clear }
 }
 
 // Whether bit i of a byte is 1; there is none past 7.
-pub fn bit_of(map: u8, i: usize) -> bool
+pub(crate) fn bit_of(map: u8, i: usize) -> bool
     ensures { λ r. ⌜ r ≡ Tables.bitOf map i ⌝ }
 {
     if i >= 8 {
@@ -178,7 +178,7 @@ pub fn warn(mut paths: [Path; 8], losers: u8) -> [Path; 8]
 }
 
 // The unit's ACA is the path's, unless it has one.
-pub fn claim(mut units: [Unit; 8], unit: u8, path: u8) -> [Unit; 8]
+pub(crate) fn claim(mut units: [Unit; 8], unit: u8, path: u8) -> [Unit; 8]
     ensures { λ r. ⌜ r ≡ claimedIn units unit path ⌝ }
 {
     let u = unit as usize;

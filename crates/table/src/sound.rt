@@ -49,7 +49,7 @@ fn is_no_path(a: Path) -> bool
 }
 
 // A record all zero.
-fn is_no_task(a: Task) -> bool
+pub fn is_no_task(a: Task) -> bool
     ensures { λ r. ⌜ r ≡ isNoTask a ⌝ }
 {
     if a.arrival != 0 {

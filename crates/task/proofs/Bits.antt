@@ -135,9 +135,6 @@ live-mapOf zero i p l = absurd (omega arith)
 live-mapOf (suc n) zero p l = live-low (p zero) (mapOf n (λ i. p (suc i)))
 live-mapOf (suc n) (suc i) p l = live-high (p zero) (mapOf n (λ i. p (suc i))) i ∙ live-mapOf n i (λ i. p (suc i)) (le-of-suc-le-suc l)
 
-pub dead-mapOf : (n i : ℕ) (p : ℕ → Bool) → n ≤ i → isLive (mapOf n p) i ≡ false
-dead-mapOf n i p l = dead-past n (mapOf n p) i (mapOf-lt n p) l
-
 -- a number below 2 ^ k is the map of what is picked where its bits say so
 pub is-mapOf : (k a : ℕ) (p : ℕ → Bool) → a < 2 ^ k → ((i : ℕ) → i < k → isLive a i ≡ p i) → a ≡ mapOf k p
 is-mapOf k a p h e = ext-live k a (mapOf k p) h (mapOf-lt k p) (λ i l. e i l ∙ sym (live-mapOf k i p l))

@@ -24,7 +24,7 @@ use Rattle.task.specs.declared.select.Stage.{Stage}
 use Rattle.task.specs.declared.select.Stage.the-variants.{Now}
 use Rattle.task.specs.declared.select.Selection.{Selection}
 use Rattle.task.specs.declared.scan.Pick.{Pick}
-use Rattle.task.proofs.Ways.{and-unequal, and-equal, cond-below}
+use Rattle.task.proofs.Ways.{equal, unequal, and-no, and-yes, cond-below}
 
 -- ---- a bit set or cleared below 64, by the number that has that bit alone
 
@@ -47,10 +47,10 @@ module _ {w : Whose} {p : ℕ} (path tag : ℕ) where
   asks-path e = rw e
 
   pub asks-name : {t : ℕ} → w ≡ Named p t → path ≡ p → eqb tag t ≡ whoseAsked w path tag
-  asks-name {t} e h = rw e (and-equal (eqb tag t) h refl)
+  asks-name e h = rw e (and-yes (equal h) refl)
 
   pub asks-other : {t : ℕ} → w ≡ Named p t → (path ≡ p → ⊥) → false ≡ whoseAsked w path tag
-  asks-other {t} e h = rw e (and-unequal (eqb tag t) h)
+  asks-other {t} e h = rw e (and-no (eqb tag t) (unequal h))
 
 pub asks-unit : {w : Place} {u : ℕ} (unit : ℕ) → w ≡ On u → eqb unit u ≡ placeAsked w unit
 asks-unit unit e = rw e

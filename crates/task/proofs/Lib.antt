@@ -10,6 +10,7 @@ pub mod Selecting
 pub mod Scanning
 pub mod Next
 pub mod Promises
+pub mod Unique
 mod Cases
 pub mod Walking
 pub mod Lending

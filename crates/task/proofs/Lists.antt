@@ -36,9 +36,6 @@ module _ {A : Type 0} where
       ext-getD d m (mapAt f 0 l) (e ∙ sym (length-mapAt f 0 l))
       (λ k b. let b : k < length l = omega arith in h k b ∙ sym (getD-mapAt f k l d b))
 
-  pub mapAt-ext : (f g : ℕ → A → A) (l : List A) (d : A) → ((k : ℕ) → k < length l → f k (getD l k d) ≡ g k (getD l k d)) → mapAt f 0 l ≡ mapAt g 0 l
-  mapAt-ext f g l d h = is-mapAt g l (mapAt f 0 l) d (length-mapAt f 0 l) (λ k b. getD-mapAt f k l d b ∙ h k b)
-
   abbrev below : ℕ → (ℕ → A → A) → ℕ → A → A
   below k f i x = cond (ltb i k) (f i x) x
 

@@ -1,18 +1,14 @@
 -- What a loop over the places asks of `some`, `all`, `first` and `mapOf`: its start, a turn that goes on, a turn that answers, its end. Assumes nothing.
 --     some-loop, all-loop, first-loop      for `search`, where a turn's test is a call's answer b with b ≡ p i. The loop for `first` keeps the invariant of that for `some`
 use Prim.Native.Nat.{ℕ, zero, suc, _+_, _*_, _^_, _≤_, _<_}
-use mathlib.Core.Path.{_≡_, refl, sym, ap, _∙_}
+use mathlib.Core.Path.{_≡_, refl, sym, _∙_}
 use mathlib.Core.Bool.{Bool, true, false, cond, not}
-use mathlib.Core.Logic.{⊎-elim}
-use native.Mathlib.Nat.{le-antisymm, pow-suc, one-mul}
+use native.Mathlib.Nat.{le-antisymm, pow-suc}
 use native.Mathlib.Numerals.{add-one}
 use native.Mathlib.Omega.{arith}
-use lib.Bits.{bitOr, or-shifted-r}
-use borrow.Author.Tests.{not-true, not-false, lt-ltb}
+use borrow.Author.Tests.{not-true, not-false}
 use Rattle.task.specs.Index.{first, some, all, one, mapOf}
-use Rattle.task.specs.Map.{withBit}
-use Rattle.task.proofs.Places.{lt-or-le, some-at, none-at, all-off, first-is, first-none}
-use Rattle.task.proofs.Bits.{mapOf-lt}
+use Rattle.task.proofs.Places.{some-at, none-at, all-off, first-is, first-none}
 
 module _ (p : ℕ → Bool) where
   pub some-start : some 0 p ≡ false
@@ -56,10 +52,6 @@ module _ (p : ℕ → Bool) where
     pub first-end : i ≤ n → n ≤ i → some i p ≡ false → n ≡ first n p
     first-end l m f = sym (first-none n p (λ k r. none-at i k p f (omega arith)))
 
-    -- it ends early where none is picked from i on
-    pub first-cut : some i p ≡ false → ((k : ℕ) → i ≤ k → k < n → p k ≡ false) → n ≡ first n p
-    first-cut f h = sym (first-none n p (λ k r. ⊎-elim (λ m. none-at i k p f m) (λ m. h k m r) (lt-or-le k i)))
-
 pub ruleset some-loop = (some-start, some-more, some-hit, some-end)
 
 pub ruleset all-loop = (all-start, all-more, all-more-not, all-miss, all-miss-not, all-end)
@@ -87,11 +79,6 @@ mapOf-start p = refl
 
 pub mapOf-add : (n : ℕ) (p : ℕ → Bool) → p n ≡ true → mapOf n p + 2 ^ n ≡ mapOf (n + 1) p
 mapOf-add n p e = rw (add-one, mapOf-suc, e)
-
-pub mapOf-set : (n : ℕ) (p : ℕ → Bool) → n < 64 → p n ≡ true → withBit (mapOf n p) n ≡ mapOf (n + 1) p
-unfolding withBit
-mapOf-set n p l e =
-    rw (lt-ltb n 64 l) (ap (bitOr (mapOf n p)) (sym (one-mul (2 ^ n))) ∙ or-shifted-r 1 n (mapOf n p) (mapOf-lt n p) ∙ omega (arith, mapOf-add n p e))
 
 pub mapOf-skip : (n : ℕ) (p : ℕ → Bool) → p n ≡ false → mapOf n p ≡ mapOf (n + 1) p
 mapOf-skip n p e = rw (add-one, mapOf-suc, e) (omega arith)

@@ -1,18 +1,16 @@
--- Laws of the map of live records: a bit set or cleared, the lowest free place, how many are live. Assumes nothing.
-use Prim.Native.Nat.{ℕ, _+_, _-_, _^_, _≤_, _<_}
+-- Laws of the map of live records: a bit set or cleared, the lowest free place. Assumes nothing.
+use Prim.Native.Nat.{ℕ, _-_, _^_, _≤_, _<_}
 use mathlib.Core.Path.{_≡_, refl, ap, _∙_}
 use mathlib.Core.Bool.{Bool, true, false, not, _||_, _&&_, or-true, or-false, and-true, and-false}
-use native.Mathlib.Nat.{lt-of-le-of-lt}
 use native.Mathlib.Omega.{arith}
 use lib.Dec.{ltb}
 use lib.Pow.{pow-lt}
 use lib.Bits.{or-lt, and-le-l}
-use borrow.Author.Tests.{lt-ltb, ltb-true, not-true, not-false}
-use Rattle.task.specs.Index.{one, count, mapOf}
-use Rattle.task.specs.Map.{isLive, isFree, lowestFree, liveCount, withBit, withoutBit}
+use borrow.Author.Tests.{lt-ltb, ltb-true, not-true}
+use Rattle.task.specs.Map.{isLive, isFree, lowestFree, withBit, withoutBit}
 use Rattle.task.proofs.Ways.{cond-ind}
-use Rattle.task.proofs.Places.{first-le, first-before, first-picks, none-first, sum-ext, sum-zero, sum-change, count-le}
-use Rattle.task.proofs.Bits.{dead-zero, live-and, live-or, live-not, live-pow-same, live-pow-other, live-mapOf}
+use Rattle.task.proofs.Places.{first-picks}
+use Rattle.task.proofs.Bits.{live-and, live-or, live-not, live-pow-same, live-pow-other}
 
 -- ---- a bit set
 
@@ -56,51 +54,8 @@ pub without-le : (live i : ℕ) → withoutBit live i ≤ live
 unfolding withoutBit
 without-le live i = cond-ind (λ (m : ℕ). m ≤ live) (ltb i 64) (λ _. and-le-l live (2 ^ 64 - 1 - 2 ^ i)) (λ _. omega arith)
 
-pub without-lt : (live i : ℕ) → live < 2 ^ 64 → withoutBit live i < 2 ^ 64
-without-lt live i h = lt-of-le-of-lt (without-le live i) h
-
 -- ---- the lowest free place
-
-pub lowest-le : (live : ℕ) → lowestFree live ≤ 64
-unfolding lowestFree
-lowest-le live = first-le 64 (isFree live)
 
 pub lowest-free : (live : ℕ) → lowestFree live < 64 → isLive live (lowestFree live) ≡ false
 unfolding lowestFree
 lowest-free live l = not-true _ (first-picks 64 (isFree live) l)
-
-pub lowest-below : (live i : ℕ) → i < lowestFree live → isLive live i ≡ true
-unfolding lowestFree
-lowest-below live i l = not-false _ (first-before 64 i (isFree live) l)
-
-pub lowest-full : (live i : ℕ) → lowestFree live ≡ 64 → i < 64 → isLive live i ≡ true
-unfolding lowestFree
-lowest-full live i e l = not-false _ (none-first 64 i (isFree live) e l)
-
--- ---- how many are live
-
-pub count-le-64 : (live : ℕ) → liveCount live ≤ 64
-unfolding liveCount
-count-le-64 live = count-le 64 (isLive live)
-
-pub count-zero : liveCount 0 ≡ 0
-unfolding liveCount
-count-zero = sum-zero 64 (λ i. one (isLive 0 i)) (λ i _. ap one (dead-zero i))
-
-pub count-mapOf : (p : ℕ → Bool) → liveCount (mapOf 64 p) ≡ count 64 p
-unfolding liveCount
-count-mapOf p = sum-ext 64 (λ i. one (isLive (mapOf 64 p) i)) (λ i. one (p i)) (λ i l. ap one (live-mapOf 64 i p l))
-
-pub count-with : (live i : ℕ) → i < 64 → isLive live i ≡ false → liveCount (withBit live i) ≡ liveCount live + 1
-unfolding liveCount
-count-with live i l e =
-    let c : count 64 (isLive (withBit live i)) + one (isLive live i) ≡ count 64 (isLive live) + one (isLive (withBit live i) i) =
-    sum-change 64 i (λ j. one (isLive (withBit live i) j)) (λ j. one (isLive live j)) l (λ j _ n. ap one (with-other live i j n)) in
-    omega (arith, c, ap one e, ap one (with-same live i l))
-
-pub count-without : (live i : ℕ) → i < 64 → isLive live i ≡ true → liveCount (withoutBit live i) + 1 ≡ liveCount live
-unfolding liveCount
-count-without live i l e =
-    let c : count 64 (isLive (withoutBit live i)) + one (isLive live i) ≡ count 64 (isLive live) + one (isLive (withoutBit live i) i) =
-    sum-change 64 i (λ j. one (isLive (withoutBit live i) j)) (λ j. one (isLive live j)) l (λ j m n. ap one (without-other live i j m n)) in
-    omega (arith, c, ap one e, ap one (without-same live i l))

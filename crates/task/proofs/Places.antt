@@ -1,13 +1,13 @@
--- Laws of places below a bound: `first`, `some`, `all`, `sum` and `count`, by what holds at each place. Assumes nothing.
+-- Laws of places below a bound: `first`, `some`, `all`, `sum` and `mapOf`, by what holds at each place. Assumes nothing.
 use Prim.Native.Nat.{ℕ, zero, suc, _+_, _≤_, _<_, suc-le-suc}
 use mathlib.Core.Path.{_≡_, refl, sym, ap, ap₂, _∙_}
-use mathlib.Core.Bool.{Bool, true, false, cond, not, _||_, _&&_, or-true, and-false}
+use mathlib.Core.Bool.{Bool, true, false, cond, _||_, _&&_, or-true, and-false}
 use mathlib.Core.Logic.{_⊎_, inl, inr, ⊎-elim}
 use native.Mathlib.Nat.{le-of-suc-le-suc, eq-or-lt-of-le}
 use native.Mathlib.Omega.{arith}
 use lib.Dec.{ltb}
 use borrow.Author.Tests.{ltb-true, ltb-false}
-use Rattle.task.specs.Index.{first, some, all, sum, one, count, mapOf}
+use Rattle.task.specs.Index.{first, some, all, sum, one, mapOf}
 use Rattle.task.proofs.Ways.{cond-ind, either-way, never}
 
 -- a place below n + 1 is n, or below n
@@ -18,11 +18,6 @@ pub lt-or-le : (i k : ℕ) → (i < k) ⊎ (k ≤ i)
 lt-or-le i k = elim (either-way (ltb i k)) [ inl h ↦ inl (ltb-true i k h) | inr h ↦ inr (ltb-false i k h) ]
 
 -- ---- first
-
-pub first-le : (n : ℕ) (p : ℕ → Bool) → first n p ≤ n
-unfolding first
-first-le zero p = omega arith
-first-le (suc n) p = cond-ind (λ (x : ℕ). x ≤ suc n) (p zero) (λ _. omega arith) (λ _. suc-le-suc (first-le n _))
 
 before-step : (p : ℕ → Bool) (x i : ℕ) → p zero ≡ false → ((k : ℕ) → k < x → p (suc k) ≡ false) → i < suc x → p i ≡ false
 before-step p x zero e r l = e
@@ -56,9 +51,6 @@ pub first-none : (n : ℕ) (p : ℕ → Bool) → ((k : ℕ) → k < n → p k �
 unfolding first
 first-none zero p b = refl
 first-none (suc n) p b = rw (b zero (omega arith)) (ap suc (first-none n (λ k. p (suc k)) (λ k m. b (suc k) (suc-le-suc m))))
-
-pub none-first : (n k : ℕ) (p : ℕ → Bool) → first n p ≡ n → k < n → p k ≡ false
-none-first n k p e l = first-before n k p (rw e l)
 
 pub first-ext : (n : ℕ) (p q : ℕ → Bool) → ((i : ℕ) → i < n → p i ≡ q i) → first n p ≡ first n q
 unfolding first
@@ -95,21 +87,7 @@ some-none (suc n) p h = ap₂ _||_ (some-none n p (λ i l. h i (omega arith))) (
 pub none-at : (n i : ℕ) (p : ℕ → Bool) → some n p ≡ false → i < n → p i ≡ false
 none-at n i p e l = elim (either-way (p i)) [ inl h ↦ absurd (never (some-at n i p l h) e) | inr h ↦ h ]
 
-pub some-ext : (n : ℕ) (p q : ℕ → Bool) → ((i : ℕ) → i < n → p i ≡ q i) → some n p ≡ some n q
-unfolding some
-some-ext zero p q h = refl
-some-ext (suc n) p q h = ap₂ _||_ (some-ext n p q (λ i l. h i (omega arith))) (h n (omega arith))
-
 -- ---- all
-
-not-or : (b c : Bool) → not (b || c) ≡ (not b && not c)
-not-or true c = refl
-not-or false c = refl
-
-pub not-some-is-all : (n : ℕ) (p : ℕ → Bool) → not (some n p) ≡ all n (λ i. not (p i))
-unfolding some all
-not-some-is-all zero p = refl
-not-some-is-all (suc n) p = not-or (some n p) (p n) ∙ ap (λ (b : Bool). b && not (p n)) (not-some-is-all n p)
 
 pub all-of : (n : ℕ) (p : ℕ → Bool) → ((i : ℕ) → i < n → p i ≡ true) → all n p ≡ true
 unfolding all
@@ -126,27 +104,12 @@ all-off (suc n) i p l e =
 pub all-at : (n i : ℕ) (p : ℕ → Bool) → all n p ≡ true → i < n → p i ≡ true
 all-at n i p e l = elim (either-way (p i)) [ inl h ↦ h | inr h ↦ absurd (never e (all-off n i p l h)) ]
 
-pub all-ext : (n : ℕ) (p q : ℕ → Bool) → ((i : ℕ) → i < n → p i ≡ q i) → all n p ≡ all n q
-unfolding all
-all-ext zero p q h = refl
-all-ext (suc n) p q h = ap₂ _&&_ (all-ext n p q (λ i l. h i (omega arith))) (h n (omega arith))
-
--- ---- sum and count
+-- ---- sum
 
 pub sum-ext : (n : ℕ) (f g : ℕ → ℕ) → ((i : ℕ) → i < n → f i ≡ g i) → sum n f ≡ sum n g
 unfolding sum
 sum-ext zero f g h = refl
 sum-ext (suc n) f g h = ap₂ _+_ (sum-ext n f g (λ i l. h i (omega arith))) (h n (omega arith))
-
-pub sum-le : (n : ℕ) (f g : ℕ → ℕ) → ((i : ℕ) → i < n → f i ≤ g i) → sum n f ≤ sum n g
-unfolding sum
-sum-le zero f g h = omega arith
-sum-le (suc n) f g h = omega (arith, sum-le n f g (λ i l. h i (omega arith)), h n (omega arith))
-
-pub sum-add : (n : ℕ) (f g : ℕ → ℕ) → sum n (λ i. f i + g i) ≡ sum n f + sum n g
-unfolding sum
-sum-add zero f g = refl
-sum-add (suc n) f g = omega (arith, sum-add n f g)
 
 pub sum-zero : (n : ℕ) (f : ℕ → ℕ) → ((i : ℕ) → i < n → f i ≡ 0) → sum n f ≡ 0
 unfolding sum
@@ -172,40 +135,6 @@ pub sum-suc : (n : ℕ) (f : ℕ → ℕ) → sum (suc n) f ≡ f zero + sum n (
 unfolding sum
 sum-suc zero f = omega arith
 sum-suc (suc n) f = ap (λ (x : ℕ). x + f (suc n)) (sum-suc n f) ∙ omega arith
-
-one-le : (b : Bool) → one b ≤ 1
-one-le true = omega arith
-one-le false = omega arith
-
-pub count-le : (n : ℕ) (p : ℕ → Bool) → count n p ≤ n
-unfolding sum
-count-le zero p = omega arith
-count-le (suc n) p = omega (arith, count-le n p, one-le (p n))
-
-pub count-ext : (n : ℕ) (p q : ℕ → Bool) → ((i : ℕ) → i < n → p i ≡ q i) → count n p ≡ count n q
-count-ext n p q h = sum-ext n (λ i. one (p i)) (λ i. one (q i)) (λ i l. ap one (h i l))
-
-one-or : (b c : Bool) → (b && c) ≡ false → one (b || c) ≡ one b + one c
-one-or true true h = absurd (never refl h)
-one-or true false h = refl
-one-or false c h = omega arith
-
--- what p picks or q picks, where no place is picked by both
-pub count-or : (n : ℕ) (p q : ℕ → Bool) → ((i : ℕ) → i < n → (p i && q i) ≡ false) → count n (λ i. p i || q i) ≡ count n p + count n q
-count-or n p q h =
-    sum-ext n (λ i. one (p i || q i)) (λ i. one (p i) + one (q i)) (λ i l. one-or (p i) (q i) (h i l))
-    ∙ sum-add n (λ i. one (p i)) (λ i. one (q i))
-
-one-split : (b c : Bool) → one b ≡ one (b && c) + one (b && not c)
-one-split true true = refl
-one-split true false = refl
-one-split false c = refl
-
--- what p picks, parted by q
-pub count-split : (n : ℕ) (p q : ℕ → Bool) → count n p ≡ count n (λ i. p i && q i) + count n (λ i. p i && not (q i))
-count-split n p q =
-    sum-ext n (λ i. one (p i)) (λ i. one (p i && q i) + one (p i && not (q i))) (λ i _. one-split (p i) (q i))
-    ∙ sum-add n (λ i. one (p i && q i)) (λ i. one (p i && not (q i)))
 
 -- ---- mapOf
 

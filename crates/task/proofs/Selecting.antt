@@ -1,10 +1,10 @@
 -- What a selection picks: by its parts, and as plain facts for each selection that the rules speak of. Assumes nothing.
 use Prim.Native.Nat.{ℕ}
-use mathlib.Core.Path.{_≡_, refl, ap, ap₂, _∙_}
-use mathlib.Core.Bool.{Bool, true, not, _&&_, and-true}
+use mathlib.Core.Path.{_≡_, refl, ap, _∙_}
+use mathlib.Core.Bool.{Bool, true, _&&_, and-true}
 use lib.Dec.{eqb}
 use Rattle.task.specs.Tasks.{kindNumber, phaseNumber, isAca, isRunning}
-use Rattle.task.specs.Selections.{numberAsked, whoseAsked, placeAsked, sortAsked, stageAsked, picks, everyTask, named, onUnit, fromOn, acaOn, acaFromOn, runningOn, waitingOn, acaWaitingOn, runningAs}
+use Rattle.task.specs.Selections.{numberAsked, whoseAsked, placeAsked, sortAsked, stageAsked, picks, everyTask, named, onUnit, acaOn, acaFromOn, runningOn}
 use Rattle.task.specs.declared.Kind.{Kind}
 use Rattle.task.specs.declared.Kind.the-variants as kind
 use Rattle.task.specs.declared.Phase.{Phase}
@@ -31,10 +31,6 @@ meets s a e =
     let k = both _ _ (p .1) in
     record { number = n .0; whose = w .0; place = p .0; sort = k .0; stage = k .1 }
 
-pub picks-met : (s : Selection) (a : Task) → Meets s a → picks s a ≡ true
-unfolding picks
-picks-met s a m = rw (m .number, m .whose, m .place, m .sort, m .stage)
-
 -- ---- kinds and phases
 
 pub aca-number : (k : Kind) → eqb (kindNumber k) 0 ≡ isAca k
@@ -46,10 +42,6 @@ aca-number kind.Simple = refl
 pub running-number : (p : Phase) → eqb (phaseNumber p) 1 ≡ isRunning p
 running-number phase.Waiting = refl
 running-number phase.Running = refl
-
-pub waiting-number : (p : Phase) → eqb (phaseNumber p) 0 ≡ not (isRunning p)
-waiting-number phase.Waiting = refl
-waiting-number phase.Running = refl
 
 -- ---- the selections that the rules speak of
 
@@ -66,10 +58,6 @@ module _ (a : Task) where
   unfolding picks
   picks-on unit = and-true _
 
-  pub picks-from-on : (path unit : ℕ) → picks (fromOn path unit) a ≡ (eqb (a .path) path && eqb (a .unit) unit)
-  unfolding picks
-  picks-from-on path unit = ap (λ (b : Bool). eqb (a .path) path && b) (and-true _)
-
   pub picks-aca-on : (unit : ℕ) → picks (acaOn unit) a ≡ (eqb (a .unit) unit && isAca (a .kind))
   unfolding picks
   picks-aca-on unit = ap (λ (b : Bool). eqb (a .unit) unit && b) (and-true _ ∙ aca-number (a .kind))
@@ -81,15 +69,3 @@ module _ (a : Task) where
   pub picks-running-on : (unit : ℕ) → picks (runningOn unit) a ≡ (eqb (a .unit) unit && isRunning (a .phase))
   unfolding picks
   picks-running-on unit = ap (λ (b : Bool). eqb (a .unit) unit && b) (running-number (a .phase))
-
-  pub picks-waiting-on : (unit : ℕ) → picks (waitingOn unit) a ≡ (eqb (a .unit) unit && not (isRunning (a .phase)))
-  unfolding picks
-  picks-waiting-on unit = ap (λ (b : Bool). eqb (a .unit) unit && b) (waiting-number (a .phase))
-
-  pub picks-aca-waiting-on : (unit : ℕ) → picks (acaWaitingOn unit) a ≡ (eqb (a .unit) unit && (isAca (a .kind) && not (isRunning (a .phase))))
-  unfolding picks
-  picks-aca-waiting-on unit = ap (λ (b : Bool). eqb (a .unit) unit && b) (ap₂ _&&_ (aca-number (a .kind)) (waiting-number (a .phase)))
-
-  pub picks-running-as : (arrival : ℕ) → picks (runningAs arrival) a ≡ (eqb (a .arrival) arrival && isRunning (a .phase))
-  unfolding picks
-  picks-running-as arrival = ap (λ (b : Bool). eqb (a .arrival) arrival && b) (running-number (a .phase))

@@ -6,3 +6,4 @@ pub mod Selections
 pub mod Scan
 pub mod Next
 pub mod Promises
+pub mod Unique

@@ -44,7 +44,7 @@ pub fn no_task() -> Task
 }
 
 // The number of a kind in QUEUE CNTL.
-pub fn kind_number(k: Kind) -> u8
+pub(crate) fn kind_number(k: Kind) -> u8
     ensures { λ r. ⌜ r ≡ kindNumber k ⌝ }
 {
     match k {
@@ -55,7 +55,7 @@ pub fn kind_number(k: Kind) -> u8
     }
 }
 
-pub fn phase_number(p: Phase) -> u8
+pub(crate) fn phase_number(p: Phase) -> u8
     ensures { λ r. ⌜ r ≡ phaseNumber p ⌝ }
 {
     match p {

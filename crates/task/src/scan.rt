@@ -59,7 +59,7 @@ fn goes_before(a: Pick, b: Pick) -> bool
 }
 
 // The best so far, after record i.
-pub fn consider(best: Pick, a: Task, i: usize, live: u64, s: Selection) -> Pick
+fn consider(best: Pick, a: Task, i: usize, live: u64, s: Selection) -> Pick
     ensures { λ r. ⌜ r ≡ considered live s best i a ⌝ }
 {
     if !crate::select::picked_live(live, s, i, a) {

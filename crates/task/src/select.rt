@@ -103,7 +103,7 @@ fn stage_asked(s: Stage, p: Phase) -> bool
 }
 
 // Whether the selection picks the task.
-pub fn picked(s: Selection, a: Task) -> bool
+fn picked(s: Selection, a: Task) -> bool
     ensures { λ r. ⌜ r ≡ picks s a ⌝ }
 {
     let number = s.number;

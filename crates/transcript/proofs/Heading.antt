@@ -14,8 +14,9 @@ use borrow.Author.Tests.{ltb-true, ltb-false, lt-ltb}
 use Rattle.table.specs.Setup.{badList}
 use Rattle.wire.proofs.Table.{cond-ind}
 use Rattle.transcript.specs.Numbers.{numberAt, byteAt, idAt, given}
-use Rattle.transcript.specs.Header.{Heading, malformed, heading, idsThen, headingOf}
+use Rattle.transcript.specs.Header.{Heading, malformed, idsThen, headingOf}
 use Rattle.transcript.specs.Reading.{noIds, keptAt, leastOfNine, idsFrom, afterIds, headerOf}
+use Rattle.transcript.specs.Promises.{Alike, Says}
 use Rattle.transcript.specs.declared.number.Number.{Number}
 use Rattle.transcript.specs.declared.number.Number.the-variants as number
 use Rattle.transcript.specs.declared.header.Ids.{Ids}
@@ -49,10 +50,6 @@ long-bad : (ids : List ℕ) → 8 < length ids → badList ids ≡ true
 unfolding badList
 long-bad ids h = rw (lt-ltb _ _ h) (or-true (eqb (length ids) 0))
 
--- the same list for setup: the same ids, or a list that is refused as the other is
-abbrev pub Alike : List ℕ → List ℕ → Type 0
-Alike kept ids = (badList kept ≡ badList ids) × (badList ids ≡ false → kept ≡ ids)
-
 alike : (ids : List ℕ) → Alike (take (leastOfNine (length ids)) (keptAll (replicate 9 0) 0 ids)) ids
 alike ids =
     cond-ind (λ (n : ℕ). Alike (take n (keptAll (replicate 9 0) 0 ids)) ids) (ltb (length ids) 9)
@@ -73,31 +70,29 @@ alike ids =
 
 -- ---- the header
 
-abbrev pub Same : Heading → Header → Type 0
-Same malformed h = h .ok ≡ false
-Same (heading ids mask first next) h =
-    (h .ok ≡ true) × (h .mask ≡ mask) × (h .first ≡ first) × (h .next ≡ next) × Alike (take (h .count) (h .ids)) ids
-
-given-both : {A B : Type 0} (R : A → B → Type 0) {a : A} {b : B} (r : Number) (f : ℕ → ℕ → A) (g : ℕ → ℕ → B) → R a b → ((v next : ℕ) → R (f v next) (g v next)) → R (given a r f) (given b r g)
+-- what follows from one number, told in two ways
+given-both :
+    {A B : Type 0} (R : A → B → Type 0) {a : A} {b : B} (r : Number) (f : ℕ → ℕ → A) (g : ℕ → ℕ → B) → R a b
+    → ((v next : ℕ) → R (f v next) (g v next)) → R (given a r f) (given b r g)
 unfolding given
 given-both R number.Bad f g h k = h
 given-both R (number.Value v next) f g h k = k v next
 
 module _ (s : List ℕ) where
   ids-both :
-      (n at : ℕ) (a : List ℕ) (i : ℕ) (f : List ℕ → ℕ → Heading) (g : Ids → Header) → Same malformed (g noIds)
-      → ((ids : List ℕ) (next : ℕ) → length ids ≡ n → Same (f ids next) (g (record { next = next; ids = keptAll a i ids; ok = true })))
-      → Same (idsThen n s at f) (g (idsFrom n s at a i))
+      (n at : ℕ) (a : List ℕ) (i : ℕ) (f : List ℕ → ℕ → Heading) (g : Ids → Header) → Says malformed (g noIds)
+      → ((ids : List ℕ) (next : ℕ) → length ids ≡ n → Says (f ids next) (g (record { next = next; ids = keptAll a i ids; ok = true })))
+      → Says (idsThen n s at f) (g (idsFrom n s at a i))
   unfolding idsThen idsFrom
   ids-both zero at a i f g h k = k [] at refl
   ids-both (suc n) at a i f g h k =
-      given-both (λ x y. Same x (g y)) (idAt s at) _ _ h
+      given-both (λ x y. Says x (g y)) (idAt s at) _ _ h
       (λ id next. ids-both n next (keptAt a i id) (i + 1) (λ ids after. f (id ∷ ids) after) g h (λ ids after e. k (id ∷ ids) after (ap suc e)))
 
-  pub headings-same : Same (headingOf s) (headerOf s)
+  pub header-read : Says (headingOf s) (headerOf s)
   unfolding headingOf headerOf afterIds
-  headings-same =
-      given-both Same (byteAt s 0) _ _ refl (λ count a.
+  header-read =
+      given-both Says (byteAt s 0) _ _ refl (λ count a.
       ids-both count a (replicate 9 0) 0 _ (afterIds s count) refl (λ ids b e.
-      given-both Same (byteAt s b) _ _ refl (λ mask c.
-      given-both Same (numberAt s c) _ _ refl (λ first next. (refl, refl, refl, refl, rw (← e) (alike ids))))))
+      given-both Says (byteAt s b) _ _ refl (λ mask c.
+      given-both Says (numberAt s c) _ _ refl (λ first next. (refl, refl, refl, refl, rw (← e) (alike ids))))))

@@ -10,3 +10,4 @@ mod Printing
 mod Playing
 mod Whole
 pub mod Promises
+pub mod Unique

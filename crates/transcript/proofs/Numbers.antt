@@ -100,7 +100,9 @@ under-bound bound (Value w x) {v} {next} e =
     e
 
 -- from a number under a bound: it is its own remainder
-pub given-under : {A : Type 0} (none : A) (f : ℕ → ℕ → A) {r : Number} (bound : ℕ) (n : Number) → r ≡ below bound n → {v next : ℕ} {x : A} → r ≡ Value v next → x ≡ f (v % bound) next → x ≡ given none (below bound n) f
+pub given-under :
+    {A : Type 0} (none : A) (f : ℕ → ℕ → A) {r : Number} (bound : ℕ) (n : Number) → r ≡ below bound n
+    → {v next : ℕ} {x : A} → r ≡ Value v next → x ≡ f (v % bound) next → x ≡ given none (below bound n) f
 given-under none f bound n e q h = given-value none f e q (rw (mod-eq-of-lt (under-bound bound n (sym q ∙ e))) at h)
 
 pub ruleset given-cases = (given-none, given-under, given-value)

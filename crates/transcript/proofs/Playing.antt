@@ -18,8 +18,8 @@ use Rattle.engine.specs.declared.Outcome.{Outcome}
 use Rattle.transcript.specs.Numbers.{numberAt, byteAt, given}
 use Rattle.transcript.specs.Reading.{leastOfNine, idsFrom, afterIds, headerOf}
 use Rattle.transcript.specs.Events.{eventAt}
-use Rattle.transcript.specs.Lines.{emptyLine, pushAll, endOk, endBad, endRefused, Handed}
-use Rattle.transcript.specs.Text.{longest, partOf, called}
+use Rattle.transcript.specs.Lines.{emptyLine, pushAll, endOk, Handed}
+use Rattle.transcript.specs.Text.{longest, partOf, called, endOf}
 use Rattle.transcript.specs.Playing.{player, standing, standingAt, isPlaying, isRefused, setBy, byHeader, opened, idled, byNext, turned, turnLine, stepOf, lineLeft, Advances, lastText, lastLine}
 use Rattle.transcript.specs.declared.number.Number.{Number}
 use Rattle.transcript.specs.declared.number.Number.the-variants as number
@@ -127,28 +127,28 @@ pub ruleset call-cases = (call-message, call-start, call-finish, call-reset)
 -- ---- a turn
 
 module _ (p : Player) (s : List ℕ) {b : Bool} (e : b ≡ isPlaying (p .state)) where
-  pub not-playing : {r : Turn} → not b ≡ true → r ≡ idled p → r ≡ turned p s
+  pub not-playing : {r : Turn} → not b ≡ true → r ≡ idled (standingAt p (p .state)) → r ≡ turned p s
   unfolding turned
   not-playing n q = q ∙ rw (← e, not-true b n)
 
   module _ (n : not b ≡ false) where
-    pub at-end : {after : Player} {r : Turn} → length s ≤ p .at → after ≡ standingAt p state.Done → r ≡ idled after → r ≡ turned p s
+    pub at-end : {r : Turn} → length s ≤ p .at → r ≡ idled (standingAt p state.Done) → r ≡ turned p s
     unfolding turned
-    at-end l f q = q ∙ rw (f, ← e, not-false b n, le-leb _ _ l)
+    at-end l q = q ∙ rw (← e, not-false b n, le-leb _ _ l)
 
     module _ (l : p .at < length s) where
-      pub last-number : {after : Player} {r : Turn} → p .number ≡ 2 ^ 64 - 1 → after ≡ standingAt p state.Bad → r ≡ idled after → r ≡ turned p s
+      pub last-number : {r : Turn} → p .number ≡ 2 ^ 64 - 1 → r ≡ idled (standingAt p state.Bad) → r ≡ turned p s
       unfolding turned
-      last-number z f q = q ∙ rw (f, ← e, not-false b n, lt-leb _ _ l, eq-eqb _ _ z)
+      last-number z q = q ∙ rw (← e, not-false b n, lt-leb _ _ l, eq-eqb _ _ z)
 
       module _ (z : p .number ≡ 2 ^ 64 - 1 → ⊥) {x : Next} (g : x ≡ eventAt s (p .at)) where
         by-event : turned p s ≡ byNext p s x
         unfolding turned
         by-event = rw (← e, not-false b n, lt-leb _ _ l, ne-eqb _ _ z, ← g)
 
-        pub bad-event : {after : Player} {r : Turn} → x ≡ Bad → after ≡ standingAt p state.Bad → r ≡ idled after → r ≡ turned p s
+        pub bad-event : {r : Turn} → x ≡ Bad → r ≡ idled (standingAt p state.Bad) → r ≡ turned p s
         unfolding byNext
-        bad-event k f q = q ∙ rw (f, by-event, k)
+        bad-event k q = q ∙ rw (by-event, k)
 
         pub event-played :
             {event : Event} {next : ℕ} {o : Outcome} → x ≡ Is event next → o ≡ called (p .table) s event
@@ -192,11 +192,11 @@ module _ (p : Player) {r : Line} where
   unfolding lastText
   input-done e n q = q ∙ rw (e, n)
 
-  pub input-bad : p .state ≡ state.Bad → r ≡ pushAll emptyLine endBad → r ≡ lastLine p
+  pub input-bad : p .state ≡ state.Bad → r ≡ pushAll emptyLine (endOf Paper.malformed) → r ≡ lastLine p
   unfolding lastText
   input-bad e q = q ∙ rw e
 
-  pub setup-refused : p .state ≡ state.Refused → r ≡ pushAll emptyLine (endRefused 11) → r ≡ lastLine p
+  pub setup-refused : p .state ≡ state.Refused → r ≡ pushAll emptyLine (endOf Paper.badPaths) → r ≡ lastLine p
   unfolding lastText
   setup-refused e q = q ∙ rw e
 

@@ -18,18 +18,19 @@ use Rattle.transcript.specs.Header.{Heading, malformed, heading, heading
 use Rattle.transcript.specs.Reading.{headerOf}
 use Rattle.transcript.specs.Lines.{lineOf}
 use Rattle.transcript.specs.Text.{longest, called, byEvent, textFrom, byHeading, textOf}
-use Rattle.transcript.specs.Playing.{player, standing, isPlaying, idled, setBy, byHeader, opened, byNext, turned, lastText, printedFrom, printed}
+use Rattle.transcript.specs.Playing.{player, standing, isPlaying, idled, setBy, byHeader, opened, byNext, turned, turnText, lastText, printedFrom, printed}
+use Rattle.transcript.specs.Promises.{Says}
 use Rattle.transcript.specs.declared.header.Header.{Header}
 use Rattle.transcript.specs.declared.event.Next.{Next}
 use Rattle.transcript.specs.declared.event.Next.the-variants.{Is, Bad}
 use Rattle.transcript.specs.declared.play.State.the-variants as state
 use Rattle.transcript.specs.declared.play.Player.{Player}
 use Rattle.transcript.specs.declared.play.Turn.{Turn}
-use Rattle.transcript.proofs.Heading.{Same, headings-same}
+use Rattle.transcript.proofs.Heading.{header-read}
 
 -- what is printed from a turn on
 abbrev printedBy : ℕ → List ℕ → Turn → List ℕ
-printedBy left s t = cond (t .played) (lineOf (t .player .number) (t .answer) ++ printedFrom left (t .player) s) (lastText (t .player))
+printedBy left s t = cond (t .played) (turnText t ++ printedFrom left (t .player) s) (lastText (t .player))
 
 -- a player that has stopped prints its last line
 stopped : (left : ℕ) (p : Player) (s : List ℕ) → isPlaying (p .state) ≡ false → printedFrom (suc left) p s ≡ lastText p
@@ -72,7 +73,7 @@ module _ (h : Header) (ok : h .ok ≡ true) where
   unfolding byHeader setupOf
   header-set b = rw (ok, b)
 
-by-header : (s : List ℕ) (hd : Heading) (h : Header) → length s ≤ longest → Same hd h → printedFrom (suc (length s)) (byHeader h) s ≡ byHeading s hd
+by-header : (s : List ℕ) (hd : Heading) (h : Header) → length s ≤ longest → Says hd h → printedFrom (suc (length s)) (byHeader h) s ≡ byHeading s hd
 unfolding byHeader byHeading lastText
 by-header s malformed h l e = rw e (stopped (length s) _ s refl)
 by-header s (heading ids mask first next) h l (ok, m, f, n, alike) =
@@ -86,4 +87,4 @@ prints s = rw (add-one (length s)) (by-length (ltb longest (length s)) refl)
   where
     by-length : (b : Bool) → ltb longest (length s) ≡ b → printedFrom (suc (length s)) (opened s) s ≡ textOf s
     by-length true t = rw t (stopped (length s) _ s refl)
-    by-length false t = rw t (by-header s (headingOf s) (headerOf s) (ltb-false _ _ t) (headings-same s))
+    by-length false t = rw t (by-header s (headingOf s) (headerOf s) (ltb-false _ _ t) (header-read s))

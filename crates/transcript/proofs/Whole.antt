@@ -1,26 +1,28 @@
--- Every line fits its 64 bytes, so what is written of it is the whole line.
+-- Every line fits its 64 bytes, so what is written of it is the whole line, and the whole line is left in a buffer of 64 bytes or more.
 -- Assumes nothing.
 use Prim.Native.Nat.{ℕ, zero, suc, _+_, _/_, _≤_, _<_, zero-le}
 use mathlib.Core.Path.{_≡_, refl, sym, subst, _∙_}
+use mathlib.Core.Bool.{Bool, true, false, cond}
 use mathlib.Core.List.{List, [], _∷_, _++_, append-nil}
-use lib.ListN.{length, take, set, replicate, length-set, length-append}
-use lib.Seq.{append-snoc, take-suc-set}
+use lib.ListN.{length, take, drop, set, replicate, length-set, length-append}
+use lib.Seq.{append-snoc, take-suc-set, take-append-seam}
 use lib.Dec.{ltb}
 use native.Mathlib.Nat.{add-zero, zero-add}
 use native.Mathlib.Numerals.{add-one}
 use native.Mathlib.Omega.{arith}
-use borrow.Author.Tests.{lt-ltb}
+use borrow.Author.Tests.{lt-ltb, le-ltb}
 use Rattle.task.specs.Map.{liveCount}
 use Rattle.wire.proofs.Table.{cond-ind}
 use Rattle.plan.specs.declared.Answer.{Answer}
 use Rattle.plan.specs.declared.Answer.the-variants.{Ready, Accepted, Response, Status, Started, Reset, Refused}
-use Rattle.transcript.specs.Lines.{pushed, pushAll, decimalIn, answerText, lineOf, endOk, endBad, endRefused}
-use Rattle.transcript.specs.Playing.{lastText}
-use Rattle.transcript.specs.Promises.{Whole}
+use Rattle.transcript.specs.Lines.{emptyLine, pushed, pushAll, decimalIn, answerText, lineOf, handedOf, handedIn, Handed}
+use Rattle.transcript.specs.Playing.{turned, turnText, stepOf, lineLeft, Advances, lastText, lastLine}
+use Rattle.transcript.specs.Promises.{Whole, Leaves}
 use Rattle.transcript.specs.declared.line.Line.{Line}
 use Rattle.transcript.specs.declared.play.State.{State}
 use Rattle.transcript.specs.declared.play.State.the-variants as state
 use Rattle.transcript.specs.declared.play.Player.{Player}
+use Rattle.transcript.specs.declared.play.Step.{Step}
 
 -- a byte put into a line that has room for it
 put-one : (bytes : List ℕ) (len b : ℕ) → len < 64 → pushed (record { bytes = bytes; len = len }) b ≡ record { bytes = set bytes len b; len = len + 1 }
@@ -62,15 +64,46 @@ text-short (Started n) = omega (arith, decimal-short 20 n)
 text-short Reset = omega arith
 text-short (Refused n) = omega (arith, decimal-short 20 (n .0))
 
+line-short : (n : ℕ) (a : Answer) → length (lineOf n a) ≤ 64
+line-short n a = simp length-append (omega (arith, decimal-short 20 n, text-short a))
+
 pub line-whole : (n : ℕ) (a : Answer) → Whole (lineOf n a)
-line-whole n a = whole (lineOf n a) (simp length-append (omega (arith, decimal-short 20 n, text-short a)))
+line-whole n a = whole (lineOf n a) (line-short n a)
+
+last-short : (p : Player) → length (lastText p) ≤ 64
+unfolding lastText
+last-short p = by-state (p .state) refl
+  where
+    by-state : (st : State) → p .state ≡ st → length (lastText p) ≤ 64
+    by-state state.Playing e = rw e (omega arith)
+    by-state state.Done e = rw e (simp length-append (omega (arith, decimal-short 20 (liveCount (p .table .live)))))
+    by-state state.Bad e = rw e (omega arith)
+    by-state state.Refused e = rw e (simp length-append (omega (arith, decimal-short 20 11)))
 
 pub last-whole : (p : Player) → Whole (lastText p)
-unfolding lastText
-last-whole p = by-state (p .state) refl
-  where
-    by-state : (st : State) → p .state ≡ st → Whole (lastText p)
-    by-state state.Playing e = rw e (whole [] (omega arith))
-    by-state state.Done e = rw e (whole (endOk (liveCount (p .table .live))) (simp length-append (omega (arith, decimal-short 20 (liveCount (p .table .live))))))
-    by-state state.Bad e = rw e (whole endBad (omega arith))
-    by-state state.Refused e = rw e (whole (endRefused 11) (simp length-append (omega (arith, decimal-short 20 11))))
+last-whole p = whole (lastText p) (last-short p)
+
+-- ---- what is left in a lent buffer of 64 bytes or more
+
+module _ (buf : List ℕ) (room : 64 ≤ length buf) where
+  text-left : (bs : List ℕ) → length bs ≤ 64 → Leaves bs (handedOf (pushAll emptyLine bs) buf) (handedIn (pushAll emptyLine bs) buf)
+  unfolding handedOf handedIn
+  text-left bs h =
+      let w = whole bs h in
+      simp (w .0, w .1, le-ltb _ _ room, le-ltb _ _ h) (refl, take-append-seam bs (drop (length bs) buf))
+
+  played-left :
+      (played : Bool) (bs : List ℕ) → length bs ≤ 64
+      → Leaves (cond played bs []) (cond played (handedOf (pushAll emptyLine bs) buf) 0) (cond played (handedIn (pushAll emptyLine bs) buf) buf)
+  played-left true bs h = text-left bs h
+  played-left false bs h = (refl, refl)
+
+  pub advance-leaves :
+      (p : Player) (s : List ℕ) (r : Step) (left : List ℕ) → Advances p s buf r left
+      → (r .player ≡ turned p s .player) × Leaves (turnText (turned p s)) (r .wrote) left
+  unfolding stepOf lineLeft
+  advance-leaves p s r left a =
+      rw (a .step, a .buffer, le-ltb _ _ room) (refl, played-left (turned p s .played) _ (line-short (turned p s .player .number) (turned p s .answer)))
+
+  pub close-leaves : (p : Player) (wrote : ℕ) (left : List ℕ) → Handed (lastLine p) buf wrote left → Leaves (lastText p) wrote left
+  close-leaves p wrote left h = rw (h .length, h .buffer) (text-left (lastText p) (last-short p))

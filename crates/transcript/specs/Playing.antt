@@ -1,10 +1,11 @@
--- The player: what open, advance and close do. That they add up to the text of Text.antt is promised in Promises.antt.
+-- What open, advance and close do. This follows the code: believe Text.antt, which they print, as Promises.antt says.
 use Prim.Native.Nat.{ℕ, zero, suc, _+_, _-_, _^_}
 use mathlib.Core.Path.{_≡_}
 use mathlib.Core.Bool.{Bool, true, false, cond}
 use mathlib.Core.List.{List, [], _++_}
 use lib.ListN.{length, take}
 use lib.Dec.{ltb, leb, eqb}
+use Rattle.wire.specs.Paper
 use Rattle.task.specs.Map.{liveCount}
 use Rattle.table.specs.Tables.{zeroTable}
 use Rattle.table.specs.declared.Table.{Table}
@@ -14,8 +15,8 @@ use Rattle.engine.specs.Calls.{setupOf}
 use Rattle.engine.specs.declared.Outcome.{Outcome}
 use Rattle.transcript.specs.Reading.{headerOf}
 use Rattle.transcript.specs.Events.{eventAt}
-use Rattle.transcript.specs.Lines.{emptyLine, pushAll, lineOf, endOk, endBad, endRefused, handedOf, handedIn}
-use Rattle.transcript.specs.Text.{longest, called}
+use Rattle.transcript.specs.Lines.{emptyLine, pushAll, lineOf, endOk, handedOf, handedIn}
+use Rattle.transcript.specs.Text.{longest, called, endOf}
 use Rattle.transcript.specs.declared.header.Header.{Header}
 use Rattle.transcript.specs.declared.line.Line.{Line}
 use Rattle.transcript.specs.declared.event.Next.{Next}
@@ -78,13 +79,18 @@ byNext p s (Is e next) = record {
   played = true;
 }
 
--- a player that plays takes the next event; at the end of the input it is done, at a malformed event bad. No input has 2^64 - 1 events
+-- a player that plays takes the next event; at the end of the input it is done, at a malformed event bad.
+-- The code counts events in 64 bits, hence the test of the number: no input is long enough to come to it
 unfoldable pub turned : Player → List ℕ → Turn
 turned p s =
     cond (isPlaying (p .state))
     (cond (leb (length s) (p .at)) (idled (standingAt p state.Done))
     (cond (eqb (p .number) (2 ^ 64 - 1)) (idled (standingAt p state.Bad)) (byNext p s (eventAt s (p .at)))))
     (idled p)
+
+-- the text of a turn: its event's line, and nothing where none was played
+abbrev pub turnText : Turn → List ℕ
+turnText t = cond (t .played) (lineOf (t .player .number) (t .answer)) []
 
 -- one event in, one line out; nothing where there is no event, and nothing played where the line buffer is under 64 bytes
 abbrev pub turnLine : Turn → Line
@@ -110,8 +116,8 @@ lastText p = byState (p .state)
     byState : State → List ℕ
     byState state.Playing = []
     byState state.Done = endOk (liveCount (p .table .live))
-    byState state.Bad = endBad
-    byState state.Refused = endRefused 11
+    byState state.Bad = endOf Paper.malformed
+    byState state.Refused = endOf Paper.badPaths
 
 abbrev pub lastLine : Player → Line
 lastLine p = pushAll emptyLine (lastText p)
@@ -121,7 +127,7 @@ lastLine p = pushAll emptyLine (lastText p)
 unfoldable pub printedFrom : ℕ → Player → List ℕ → List ℕ
 printedFrom zero p s = []
 printedFrom (suc left) p s =
-    cond (turned p s .played) (lineOf (turned p s .player .number) (turned p s .answer) ++ printedFrom left (turned p s .player) s) (lastText (turned p s .player))
+    cond (turned p s .played) (turnText (turned p s) ++ printedFrom left (turned p s .player) s) (lastText (turned p s .player))
 
 unfoldable pub printed : List ℕ → List ℕ
 printed s = printedFrom (length s + 1) (opened s) s

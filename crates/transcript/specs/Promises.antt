@@ -1,18 +1,21 @@
 -- What is promised of the transcript beside the contracts. Each is proved in proofs/Promises.antt.
 use Prim.Native.Nat.{ℕ, suc, _+_, _-_, _^_, _≤_, _<_}
 use mathlib.Core.Path.{_≡_}
+use mathlib.Core.Bool.{true, false}
 use mathlib.Core.List.{List, _++_}
 use lib.ListN.{length, getD, take, drop}
-use Rattle.task.specs.Promises.{One}
+use Rattle.table.specs.Setup.{badList}
 use Rattle.table.specs.declared.Table.{Table}
 use Rattle.plan.specs.declared.Answer.{Answer}
-use Rattle.transcript.specs.Numbers.{numberAt, byteAt, groupsOf}
+use Rattle.transcript.specs.Numbers.{numberAt, groupsOf}
+use Rattle.transcript.specs.Header.{Heading, malformed, heading, headingOf}
 use Rattle.transcript.specs.Events.{eventAt}
 use Rattle.transcript.specs.Reading.{headerOf}
 use Rattle.transcript.specs.Lines.{emptyLine, pushAll, lineOf, Handed}
 use Rattle.transcript.specs.Text.{textFrom, textOf}
-use Rattle.transcript.specs.Playing.{opened, Advances, lastLine, printed, lastText}
+use Rattle.transcript.specs.Playing.{turned, turnText, Advances, lastText, lastLine, printed}
 use Rattle.transcript.specs.declared.number.Number.the-variants.{Value}
+use Rattle.transcript.specs.declared.header.Header.{Header}
 use Rattle.transcript.specs.declared.event.Event.{Event}
 use Rattle.transcript.specs.declared.event.Next.the-variants.{Is}
 use Rattle.transcript.specs.declared.play.Player.{Player}
@@ -31,6 +34,21 @@ abbrev pub OneFormIsTaken : Type 0
 OneFormIsTaken =
     (s : List ℕ) → ((i : ℕ) → getD s i 0 < 256) → (at n next : ℕ) → numberAt s at ≡ Value n next
     → take (next - at) (drop at s) ≡ groupsOf n
+
+-- ---- the header
+
+-- the same list for setup: the same ids, or a list that is refused as the other is
+abbrev pub Alike : List ℕ → List ℕ → Type 0
+Alike kept ids = (badList kept ≡ badList ids) × (badList ids ≡ false → kept ≡ ids)
+
+-- the header as the code keeps it says what the heading says
+abbrev pub Says : Heading → Header → Type 0
+Says malformed h = h .ok ≡ false
+Says (heading ids mask first next) h =
+    (h .ok ≡ true) × (h .mask ≡ mask) × (h .first ≡ first) × (h .next ≡ next) × Alike (take (h .count) (h .ids)) ids
+
+abbrev pub HeaderIsRead : Type 0
+HeaderIsRead = (s : List ℕ) → Says (headingOf s) (headerOf s)
 
 -- ---- the text
 
@@ -57,25 +75,15 @@ LinesAreWhole = (n : ℕ) (a : Answer) → Whole (lineOf n a)
 abbrev pub LastLinesAreWhole : Type 0
 LastLinesAreWhole = (p : Player) → Whole (lastText p)
 
--- ---- two outcomes that satisfy a contract are equal
+-- a text left at the front of a buffer: as many bytes were written as it has, and they are the text
+abbrev pub Leaves : List ℕ → ℕ → List ℕ → Type 0
+Leaves text wrote left = (wrote ≡ length text) × (take wrote left ≡ text)
 
-abbrev pub OneNumberAt : Type 0
-OneNumberAt = (s : List ℕ) (at : ℕ) → One (numberAt s at)
+-- advance takes the turn and writes its text, the line of the event or nothing; close writes the last line. So what they leave in the buffer is what is printed
+abbrev pub AdvancePrints : Type 0
+AdvancePrints =
+    (p : Player) (s buf : List ℕ) (r : Step) (left : List ℕ) → 64 ≤ length buf → Advances p s buf r left
+    → (r .player ≡ turned p s .player) × Leaves (turnText (turned p s)) (r .wrote) left
 
-abbrev pub OneByteAt : Type 0
-OneByteAt = (s : List ℕ) (at : ℕ) → One (byteAt s at)
-
-abbrev pub OneEventAt : Type 0
-OneEventAt = (s : List ℕ) (at : ℕ) → One (eventAt s at)
-
-abbrev pub OneReadHeader : Type 0
-OneReadHeader = (s : List ℕ) → One (headerOf s)
-
-abbrev pub OneOpen : Type 0
-OneOpen = (s : List ℕ) → One (opened s)
-
-abbrev pub OneAdvance : Type 0
-OneAdvance = (p : Player) (s buf : List ℕ) (x y : Step) (k l : List ℕ) → Advances p s buf x k → Advances p s buf y l → (x ≡ y) × (k ≡ l)
-
-abbrev pub OneClose : Type 0
-OneClose = (p : Player) (buf : List ℕ) (x y : ℕ) (k l : List ℕ) → Handed (lastLine p) buf x k → Handed (lastLine p) buf y l → (x ≡ y) × (k ≡ l)
+abbrev pub ClosePrints : Type 0
+ClosePrints = (p : Player) (buf : List ℕ) (wrote : ℕ) (left : List ℕ) → 64 ≤ length buf → Handed (lastLine p) buf wrote left → Leaves (lastText p) wrote left

@@ -86,7 +86,7 @@ fn finish_at(s: &[u8], at: usize) -> Next
 }
 
 // The event at a place.
-pub fn event_at(s: &[u8], at: usize) -> Next
+pub(crate) fn event_at(s: &[u8], at: usize) -> Next
     ensures { λ r. ⌜ r ≡ eventAt (now (s .entry)) at ⌝ }
 {
     let Number::Value(kind, a) = number_at(s, at) else {

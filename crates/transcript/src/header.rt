@@ -102,7 +102,7 @@ fn least_of_nine(count: usize) -> usize
 }
 
 // The header at the front of the input.
-pub fn read_header(s: &[u8]) -> Header
+pub(crate) fn read_header(s: &[u8]) -> Header
     ensures { λ r. ⌜ r ≡ headerOf (now (s .entry)) ⌝ }
 {
     let Number::Value(count, a) = byte_at(s, 0) else {

@@ -2,8 +2,10 @@
 ghost use mathlib.Core.Path.{_≡_};
 ghost use Prim.Native.Nat.{_%_};
 ghost use mathlib.Core.List.{_++_};
+ghost use Rattle.wire.specs.Paper;
 ghost use Rattle.transcript.specs.Lines;
-ghost use Rattle.transcript.specs.Lines.{emptyLine, pushed, pushAll, decimalOf, digitOf, hexOf, hexWord, senseText, answerText, lineOf, endOk, endBad, endRefused, Handed};
+ghost use Rattle.transcript.specs.Lines.{emptyLine, pushed, pushAll, decimalOf, digitOf, hexOf, hexWord, senseText, answerText, lineOf, endOk, Handed};
+ghost use Rattle.transcript.specs.Text.{endOf};
 use plan::Answer;
 use wire::codes::Sense;
 
@@ -144,13 +146,13 @@ pub(crate) fn ok_line(live: u32) -> Line
 }
 
 pub(crate) fn bad_line() -> Line
-    ensures { λ r. ⌜ r ≡ pushAll emptyLine endBad ⌝ }
+    ensures { λ r. ⌜ r ≡ pushAll emptyLine (endOf Paper.malformed) ⌝ }
 {
     push_word(empty(), b"end bad\n")
 }
 
 pub(crate) fn refused_line() -> Line
-    ensures { λ r. ⌜ r ≡ pushAll emptyLine (endRefused 11) ⌝ }
+    ensures { λ r. ⌜ r ≡ pushAll emptyLine (endOf Paper.badPaths) ⌝ }
 {
     push_word(empty(), b"end refused 11\n")
 }

@@ -41,14 +41,14 @@ fn groups(s: &[u8], at: usize, left: usize) -> Number
 }
 
 // The number at a place.
-pub fn number_at(s: &[u8], at: usize) -> Number
+pub(crate) fn number_at(s: &[u8], at: usize) -> Number
     ensures { λ r. ⌜ r ≡ numberAt (now (s .entry)) at ⌝ }
 {
     groups(s, at, GROUPS)
 }
 
 // A number that fits a byte.
-pub fn byte_at(s: &[u8], at: usize) -> Number
+pub(crate) fn byte_at(s: &[u8], at: usize) -> Number
     ensures { λ r. ⌜ r ≡ byteAt (now (s .entry)) at ⌝ }
 {
     match number_at(s, at) {

@@ -128,19 +128,6 @@ fn part(s: &[u8], from: usize, until: usize) -> &[u8]
     &s[from..until]
 }
 
-// The player stands elsewhere.
-fn at_state(p: Player, state: State) -> Player
-    ensures { λ r. ⌜ r ≡ standingAt p state ⌝ }
-{
-    let table = p.table;
-    Player {
-        table,
-        at: p.at,
-        number: p.number,
-        state,
-    }
-}
-
 fn is_playing(state: State) -> bool
     ensures { λ r. ⌜ r ≡ isPlaying state ⌝ }
 {
@@ -165,27 +152,28 @@ fn take_turn(p: Player, s: &[u8]) -> Turn
 {
     let state = p.state;
     if !is_playing(state) {
-        return idle(p);
+        return idle(p, state);
     }
     let at = p.at;
     if at >= s.len() {
-        return idle(at_state(p, State::Done));
+        return idle(p, State::Done);
     }
     if p.number == 0xffff_ffff_ffff_ffff {
-        return idle(at_state(p, State::Bad));
+        return idle(p, State::Bad);
     }
     match crate::event::event_at(s, at) {
-        Next::Bad => idle(at_state(p, State::Bad)),
+        Next::Bad => idle(p, State::Bad),
         Next::Is(e, next) => {
             let t = p.table;
             let o = call(t, s, e);
             let table = o.table;
             let answer = o.answer;
+            let number = p.number + 1;
             Turn {
                 player: Player {
                     table,
                     at: next,
-                    number: p.number + 1,
+                    number,
                     state: State::Playing,
                 },
                 answer,
@@ -195,11 +183,18 @@ fn take_turn(p: Player, s: &[u8]) -> Turn
     }
 }
 
-fn idle(p: Player) -> Turn
-    ensures { λ r. ⌜ r ≡ idled p ⌝ }
+// No event is played, and the player stands there.
+fn idle(p: Player, state: State) -> Turn
+    ensures { λ r. ⌜ r ≡ idled (standingAt p state) ⌝ }
 {
+    let table = p.table;
     Turn {
-        player: p,
+        player: Player {
+            table,
+            at: p.at,
+            number: p.number,
+            state,
+        },
         answer: Answer::Ready,
         played: false,
     }

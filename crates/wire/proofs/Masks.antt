@@ -2,7 +2,7 @@
 -- Assumes nothing.
 use Prim.Native.Nat.{ℕ, _+_, _*_, _/_, _%_, _^_, _≤_, _<_}
 use mathlib.Core.Path.{_≡_, refl, sym, _∙_}
-use mathlib.Core.Bool.{Bool, true, false, _||_, or-true, true≢false}
+use mathlib.Core.Bool.{Bool, true, false, _||_, or-true}
 use mathlib.Core.List.{List, [], _∷_}
 use lib.ListN.{getD, replicate}
 use lib.Bits.{bitAnd, and-zero-r, and-high, and-mask}
@@ -15,7 +15,7 @@ use borrow.Author.Tests.{eq-eqb, ne-eqb, eqb-true, eqb-false, not-false}
 use Rattle.wire.specs.Paper.{scsiCommand}
 use Rattle.wire.specs.Fields.{byte}
 use Rattle.wire.specs.Messages.{rows, placeOf, rowOf, commandReserved, reservedSet}
-use Rattle.wire.proofs.Table.{every, at, cond-ind}
+use Rattle.wire.proofs.Table.{every, at, cond-ind, neither}
 
 -- a mask for each of the first 16 bytes, with the reserved bits set: a command's, then those of the other rows
 abbrev pub width : ℕ
@@ -40,10 +40,6 @@ no-mask row i h =
     (at 0 (λ _ x. eqb x 0) (getD masks row [])
     (rw (ne-eqb row 0 h) at (at [] (λ k r. eqb k 0 || every (λ _ x. eqb x 0) r) masks refl row (λ _. or-true (eqb row 0))))
     i (λ _. refl))
-
-neither : (a b : Bool) → (a || b) ≡ false → (a ≡ false) × (b ≡ false)
-neither true b e = absurd (true≢false e)
-neither false b e = (refl, e)
 
 module _ (m : List ℕ) where
   record Zero : Type 0 where

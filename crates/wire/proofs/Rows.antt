@@ -1,18 +1,19 @@
 -- The row of a code in the table of messages, the message of a row, and what is read, case by case.
 -- Assumes nothing.
 use Prim.Native.Nat.{ℕ, suc, _+_, _≤_, _<_, zero-le}
-use mathlib.Core.Path.{_≡_, sym, _∙_}
+use mathlib.Core.Path.{_≡_, refl, sym, _∙_}
+use mathlib.Core.Bool.{not}
 use mathlib.Core.List.{List, [], _∷_}
 use lib.ListN.{length, getD, drop, drop-of-length-le}
 use lib.Seq.{drop-cons}
-use lib.Dec.{eqb}
+use lib.Dec.{ltb, eqb}
 use native.Mathlib.Nat.{add-zero}
 use native.Mathlib.Numerals.{add-one}
 use native.Mathlib.Omega.{arith}
-use borrow.Author.Tests.{lt-ltb, le-ltb, eq-eqb, ne-eqb, eqb-true}
+use borrow.Author.Tests.{lt-ltb, le-ltb, ltb-false, eq-eqb, ne-eqb, eqb-true, eqb-false, not-true, not-false}
 use Rattle.wire.specs.Paper.{tooShort, notHandled, smsCode}
 use Rattle.wire.specs.Fields.{byte, joined, word, long}
-use Rattle.wire.specs.Messages.{codes, rows, placeOf, rowOf, leastOf, flagsOf, fieldsOf, readOf}
+use Rattle.wire.specs.Messages.{codes, rows, placeOf, rowOf, lengthOf, flagsOf, fieldsOf, readOf}
 use Rattle.wire.proofs.Table.{cond-ind}
 use Rattle.wire.specs.declared.message.Flags.{Flags}
 use Rattle.wire.specs.declared.message.Message.{Message}
@@ -83,7 +84,8 @@ module _ (m : List ℕ) {row tag path : ℕ} (t : tag ≡ word m 2) (p : path �
   unfolding fieldsOf
   clear-aca e el = rw (e, t, p, el)
 
-  pub unit-reset : {lun : ℕ} → (row ≡ 0 → ⊥) → (row ≡ 1 → ⊥) → (row ≡ 2 → ⊥) → (row ≡ 3 → ⊥) → (row ≡ 4 → ⊥) → (row ≡ 5 → ⊥) → lun ≡ byte m 8 → UnitReset tag path lun ≡ fieldsOf row m
+  pub unit-reset : {lun : ℕ} → (row ≡ 0 → ⊥) → (row ≡ 1 → ⊥) → (row ≡ 2 → ⊥) → (row ≡ 3 → ⊥) → (row ≡ 4 → ⊥) → (row ≡ 5 → ⊥)
+      → lun ≡ byte m 8 → UnitReset tag path lun ≡ fieldsOf row m
   unfolding fieldsOf
   unit-reset a b c d e f el = rw (t, p, el) (simp (ne-eqb _ _ a, ne-eqb _ _ b, ne-eqb _ _ c, ne-eqb _ _ d, ne-eqb _ _ e, ne-eqb _ _ f))
 
@@ -106,12 +108,27 @@ module _ (m : List ℕ) (h : 2 ≤ length m) where
     no-row z = simp (le-ltb _ _ h, eq-eqb _ _ e, ← r, eq-eqb _ _ z)
 
     module _ (z : row ≡ rows → ⊥) where
-      pub short : length m < leastOf row → Refused tooShort ≡ readOf m
+      pub short : length m < lengthOf row → Refused tooShort ≡ readOf m
       unfolding readOf
       short l = simp (le-ltb _ _ h, eq-eqb _ _ e, ← r, ne-eqb _ _ z, lt-ltb _ _ l)
 
-      pub whole : {x : Message} → leastOf row ≤ length m → x ≡ fieldsOf row m → x ≡ readOf m
+      pub whole : {x : Message} → lengthOf row ≤ length m → x ≡ fieldsOf row m → x ≡ readOf m
       unfolding readOf
       whole l f = f ∙ simp (le-ltb _ _ h, eq-eqb _ _ e, ← r, ne-eqb _ _ z, le-ltb _ _ l)
+
+-- one of the four ways out, with what the tests on it found
+module _ (P : Message → Type 0) (m : List ℕ) where
+  pub each-reading : P (Refused tooShort)
+      → (2 ≤ length m → (byte m 0 ≡ smsCode → ⊥) → P (Refused notHandled))
+      → (2 ≤ length m → byte m 0 ≡ smsCode → rowOf (byte m 1) ≡ rows → P (Refused notHandled))
+      → (2 ≤ length m → byte m 0 ≡ smsCode → rowOf (byte m 1) < rows → lengthOf (rowOf (byte m 1)) ≤ length m → P (fieldsOf (rowOf (byte m 1)) m))
+      → P (readOf m)
+  unfolding readOf
+  each-reading refused ours row message =
+      cond-ind P (ltb (length m) 2) (λ _. refused)
+      (λ h. cond-ind P (not (eqb (byte m 0) smsCode)) (λ n. ours (ltb-false _ _ h) (eqb-false _ _ (not-true _ n)))
+      (λ e. cond-ind P (eqb (rowOf (byte m 1)) rows) (λ z. row (ltb-false _ _ h) (eqb-true _ _ (not-false _ e)) (eqb-true _ _ z))
+      (λ z. cond-ind P (ltb (length m) (lengthOf (rowOf (byte m 1)))) (λ _. refused)
+      (λ l. message (ltb-false _ _ h) (eqb-true _ _ (not-false _ e)) (in-table (byte m 1) refl (eqb-false _ _ z)) (ltb-false _ _ l)))))
 
 pub ruleset read-cases = (in-table, no-codes, not-ours, no-row, short, whole)

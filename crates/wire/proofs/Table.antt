@@ -1,8 +1,8 @@
--- A rule of a table, proved at all of its entries by one test that antt computes; and a choice by a test, taken apart.
+-- A rule of a table, proved at all of its entries by one test that antt computes; and choices by a test, taken apart.
 -- Assumes nothing.
 use Prim.Native.Nat.{ℕ, zero, suc, _≤_, zero-le, suc-le-suc}
 use mathlib.Core.Path.{_≡_, refl}
-use mathlib.Core.Bool.{Bool, true, false, cond, _&&_, and-eq-true-iff}
+use mathlib.Core.Bool.{Bool, true, false, cond, _&&_, _||_, and-eq-true-iff, true≢false}
 use mathlib.Core.List.{List, [], _∷_}
 use lib.ListN.{length, getD}
 
@@ -23,3 +23,12 @@ module _ {A : Type 0} where
 pub cond-ind : {A : Type 0} (P : A → Type 0) (b : Bool) {x y : A} → (b ≡ true → P x) → (b ≡ false → P y) → P (cond b x y)
 cond-ind P true f g = f refl
 cond-ind P false f g = g refl
+
+-- two choices by one test
+pub cond-same : {A : Type 0} (b : Bool) {x y u v : A} → (b ≡ true → x ≡ u) → (b ≡ false → y ≡ v) → cond b x y ≡ cond b u v
+cond-same true f g = f refl
+cond-same false f g = g refl
+
+pub neither : (a b : Bool) → (a || b) ≡ false → (a ≡ false) × (b ≡ false)
+neither true b e = absurd (true≢false e)
+neither false b e = (refl, e)

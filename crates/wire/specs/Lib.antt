@@ -1,6 +1,8 @@
--- What a reader must believe of `wire`: the paper's numbers, the fields of a message, the messages, the command block, and what is promised of them.
+-- What a reader must believe of `wire`: the paper's numbers, the fields of a message, the messages, the command block, what is promised of them,
+-- and that each public function's answer is determined.
 pub mod Paper
 pub mod Fields
 pub mod Messages
 pub mod Block
 pub mod Promises
+pub mod Unique

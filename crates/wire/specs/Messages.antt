@@ -4,7 +4,8 @@ use mathlib.Core.List.{List, [], _∷_}
 use mathlib.Core.Bool.{Bool, false, cond, not, _||_}
 use lib.ListN.{length, getD}
 use lib.Dec.{ltb, eqb}
-use Rattle.wire.specs.Paper.{tooShort, notHandled, queue, smsCode, scsiCommand, abortTask, abortTaskSet, clearTaskSet, targetReset, clearAca, logicalUnitReset}
+use Rattle.wire.specs.Paper.{tooShort, notHandled, queue, smsCode}
+use Rattle.wire.specs.Paper.{scsiCommand, abortTask, abortTaskSet, clearTaskSet, targetReset, clearAca, logicalUnitReset}
 use Rattle.wire.specs.Fields.{byte, word, long}
 use Rattle.wire.specs.declared.message.Flags.{Flags}
 use Rattle.wire.specs.declared.message.Message.{Message}
@@ -17,8 +18,8 @@ abbrev pub codes : List ℕ
 codes = scsiCommand ∷ abortTask ∷ abortTaskSet ∷ clearTaskSet ∷ targetReset ∷ clearAca ∷ logicalUnitReset ∷ []
 
 -- the length needed: 11 bytes for a command, the whole table length for the others
-abbrev pub leasts : List ℕ
-leasts = 11 ∷ 10 ∷ 9 ∷ 9 ∷ 8 ∷ 9 ∷ 9 ∷ []
+abbrev pub lengths : List ℕ
+lengths = 11 ∷ 10 ∷ 9 ∷ 9 ∷ 8 ∷ 9 ∷ 9 ∷ []
 
 -- how many rows there are; the row of a code that has none
 abbrev pub rows : ℕ
@@ -32,8 +33,8 @@ placeOf x (y ∷ ys) = cond (eqb y x) 0 (placeOf x ys + 1)
 abbrev pub rowOf : ℕ → ℕ
 rowOf code = placeOf code codes
 
-abbrev pub leastOf : ℕ → ℕ
-leastOf row = getD leasts row 0
+abbrev pub lengthOf : ℕ → ℕ
+lengthOf row = getD lengths row 0
 
 -- ---- the fields
 
@@ -64,7 +65,7 @@ readOf m =
     cond (ltb (length m) 2) (Refused tooShort)
     (cond (not (eqb (byte m 0) smsCode)) (Refused notHandled)
     (cond (eqb (rowOf (byte m 1)) rows) (Refused notHandled)
-    (cond (ltb (length m) (leastOf (rowOf (byte m 1)))) (Refused tooShort)
+    (cond (ltb (length m) (lengthOf (rowOf (byte m 1)))) (Refused tooShort)
     (fieldsOf (rowOf (byte m 1)) m))))
 
 -- ---- the reserved fields

@@ -1,4 +1,5 @@
--- The paper's numbers under their names: page 01's refusals, and the codes of 003's tables 4, 6, 20, 21 and 10. Every other definition takes them from here.
+-- The paper's numbers under their names: page 01's refusals, the codes of 003's tables 4, 6, 10 and 21, and those of SCSI-3 that page 01 names.
+-- They stand here for every crate above; places, lengths and masks stand with the layouts (Messages.antt, Block.antt).
 use Prim.Native.Nat.{ℕ}
 use Rattle.wire.specs.declared.codes.Refusal.{Refusal}
 use Rattle.wire.specs.declared.codes.ReturnCode.{ReturnCode}
@@ -103,6 +104,14 @@ clearAca = 0x34
 abbrev pub logicalUnitReset : ℕ
 logicalUnitReset = 0x35
 
+-- ---- SCSI-3: the operation codes that go past an attention (page 01, rule 8)
+
+abbrev pub inquiry : ℕ
+inquiry = 0x12
+
+abbrev pub requestSense : ℕ
+requestSense = 0x03
+
 -- ---- 003, table 21: RETURN CODE of a SCSI RESPONSE
 
 abbrev pub returnCode : ℕ → ReturnCode
@@ -171,6 +180,14 @@ unknownCommand = sense 0x05 0x20 0x00
 
 abbrev pub invalidInBlock : Sense
 invalidInBlock = sense 0x05 0x24 0x00
+
+-- table 10, byte 8 with VALID clear: the ERROR CODE of a current error
+abbrev pub currentError : ℕ
+currentError = 0x70
+
+-- table 10, byte 15: the bytes of sense behind it, of 18
+abbrev pub additionalSenseLength : ℕ
+additionalSenseLength = 0x0a
 
 -- ---- 003, table 6: QUEUE CNTL
 

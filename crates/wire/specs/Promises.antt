@@ -1,47 +1,18 @@
--- What is promised of `wire` beside its contracts: each contract settles its outcome, and what is read bears its S3P CODE. Each is proved in proofs/Promises.antt.
-use Prim.Native.Nat.{ℕ, _+_, _*_}
+-- What is promised of `wire` beside its contracts: what is read bears its S3P CODE, and bytes past the specified length are not read.
+-- Each is proved in proofs/Promises.antt and proofs/Past.antt.
+use Prim.Native.Nat.{ℕ}
 use mathlib.Core.Path.{_≡_}
+use mathlib.Core.Bool.{false}
 use mathlib.Core.Logic.{_⊎_}
-use mathlib.Core.List.{List}
-use Rattle.wire.specs.Paper.{tooShort, notHandled, scsiCommand, abortTask, abortTaskSet, clearTaskSet, targetReset, clearAca, logicalUnitReset}
-use Rattle.wire.specs.Fields.{byte, joined}
+use mathlib.Core.List.{List, _++_}
+use Rattle.wire.specs.Paper.{tooShort, notHandled}
+use Rattle.wire.specs.Paper.{scsiCommand, abortTask, abortTaskSet, clearTaskSet, targetReset, clearAca, logicalUnitReset}
+use Rattle.wire.specs.Fields.{byte}
 use Rattle.wire.specs.Messages.{readOf, reservedSet}
-use Rattle.wire.specs.Block.{cutShort, noBlock, linked, blockOf}
+use Rattle.wire.specs.Block.{opcode, cutShort, noBlock, linked, blockOf}
 use Rattle.wire.specs.declared.codes.Refusal.{Refusal}
 use Rattle.wire.specs.declared.message.Message.{Message}
 use Rattle.wire.specs.declared.message.Message.the-variants.{Command, AbortTask, AbortTaskSet, ClearTaskSet, TargetReset, ClearAca, UnitReset, Refused}
-
--- ---- two outcomes that satisfy a contract are equal
-
-abbrev pub Settles : {A : Type 0} → (A → Type 0) → Type 0
-Settles {A} contract = (x y : A) → contract x → contract y → x ≡ y
-
-abbrev pub ByteAtUnique : Type 0
-ByteAtUnique = (m : List ℕ) (at : ℕ) → Settles (λ r. r ≡ byte m at)
-
-abbrev pub WordUnique : Type 0
-WordUnique = (high low : ℕ) → Settles (λ r. r ≡ joined high low)
-
-abbrev pub LongUnique : Type 0
-LongUnique = (high low : ℕ) → Settles (λ r. r ≡ high * 65536 + low)
-
-abbrev pub ReadUnique : Type 0
-ReadUnique = (m : List ℕ) → Settles (λ r. r ≡ readOf m)
-
-abbrev pub ReservedSetUnique : Type 0
-ReservedSetUnique = (m : List ℕ) → Settles (λ r. r ≡ reservedSet m)
-
-abbrev pub CutShortUnique : Type 0
-CutShortUnique = (m : List ℕ) → Settles (λ r. r ≡ cutShort m)
-
-abbrev pub NoLengthUnique : Type 0
-NoLengthUnique = (m : List ℕ) → Settles (λ r. r ≡ noBlock m)
-
-abbrev pub IsLinkedUnique : Type 0
-IsLinkedUnique = (m : List ℕ) → Settles (λ r. r ≡ linked m)
-
-abbrev pub CommandBlockUnique : Type 0
-CommandBlockUnique = (m : List ℕ) → Settles (λ r. r ≡ blockOf m)
 
 -- ---- what is read
 
@@ -63,3 +34,20 @@ ReadByCode = (m : List ℕ) (r : Message) → r ≡ readOf m → ((n : Refusal) 
 -- a refusal is 1 or 2
 abbrev pub ReadRefusals : Type 0
 ReadRefusals = (m : List ℕ) (n : Refusal) → Refused n ≡ readOf m → (n ≡ tooShort) ⊎ (n ≡ notHandled)
+
+-- ---- bytes past the specified length are not read
+
+-- m has its specified length: it is not refused by 1, and a command holds its block whole
+pub record Whole (m : List ℕ) : Type 0 where
+  pub fields : readOf m ≡ Refused tooShort → ⊥
+  pub block : byte m 1 ≡ scsiCommand → cutShort m ≡ false
+
+-- bytes after it change no answer; what `read` answers wants no whole block, and what is asked of the block wants no more than the block
+pub record PastIsNotRead : Type 0 where
+  pub read : (m rest : List ℕ) → (readOf m ≡ Refused tooShort → ⊥) → readOf (m ++ rest) ≡ readOf m
+  pub reserved-set : (m rest : List ℕ) → Whole m → reservedSet (m ++ rest) ≡ reservedSet m
+  pub cut-short : (m rest : List ℕ) → cutShort m ≡ false → cutShort (m ++ rest) ≡ false
+  pub first-byte : (m rest : List ℕ) → cutShort m ≡ false → opcode (m ++ rest) ≡ opcode m
+  pub no-length : (m rest : List ℕ) → cutShort m ≡ false → noBlock (m ++ rest) ≡ noBlock m
+  pub is-linked : (m rest : List ℕ) → cutShort m ≡ false → linked (m ++ rest) ≡ linked m
+  pub command-block : (m rest : List ℕ) → cutShort m ≡ false → blockOf (m ++ rest) ≡ blockOf m

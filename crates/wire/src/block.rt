@@ -2,16 +2,14 @@
 ghost use mathlib.Core.Path.{_≡_};
 ghost use Rattle.wire.specs.Block.{blockLength, cutShort, noBlock, linked, blockOf};
 use crate::fields::byte_at;
-
-// By opcode group (bits 7 to 5 of the block's first byte); 0 where the group has none.
-const LENGTHS: [usize; 8] = [6, 10, 10, 0, 16, 12, 0, 0];
+use crate::tables::BLOCK_LENGTHS;
 
 // The block's length, or 0 where its group has none.
 fn length(m: &[u8]) -> usize
     ensures { λ r. ⌜ r ≡ blockLength (now (m .entry)) ⌝ }
 {
     let first = byte_at(m, 16);
-    LENGTHS[(first / 32) as usize]
+    BLOCK_LENGTHS[(first / 32) as usize]
 }
 
 // Rule 2: the message ends before its command block does.

@@ -1,49 +1,64 @@
-// The paper's numbers, each a constant of its type. specs/Paper.antt has the same numbers under the same names.
+// The paper's numbers, those of a type as its associated constants. specs/Paper.antt has them under the same names and says when each is meant.
+
+// The reply buffer that every call with a reply asks for.
+pub const REPLY_ROOM: usize = 64;
+
+// SMS CODE of every message, and the S3P CODE of each (003, table 4).
+pub const SMS_CODE: u8 = 0x83;
+
+pub const SCSI_RESPONSE: u8 = 0x03;
+
+pub const SCSI_COMMAND: u8 = 0x10;
+
+pub const SCSI_STATUS: u8 = 0x11;
+
+pub const ABORT_TASK: u8 = 0x30;
+
+pub const ABORT_TASK_SET: u8 = 0x31;
+
+pub const CLEAR_TASK_SET: u8 = 0x32;
+
+pub const TARGET_RESET: u8 = 0x33;
+
+pub const CLEAR_ACA: u8 = 0x34;
+
+pub const LOGICAL_UNIT_RESET: u8 = 0x35;
+
+// The operation codes that go past an attention (page 01, rule 8).
+pub const INQUIRY: u8 = 0x12;
+
+pub const REQUEST_SENSE: u8 = 0x03;
 
 // A numbered refusal (page 01, "Numbered refusals").
 pub struct Refusal(pub u8);
 
 impl Refusal {
-    // The message is shorter than its specified length.
     pub const TOO_SHORT: Refusal = Refusal(1);
 
-    // SMS CODE is not 83h, or S3P CODE is not one handled.
     pub const NOT_HANDLED: Refusal = Refusal(2);
 
-    // RETURN PATH ID is not in the path list.
     pub const UNKNOWN_PATH: Refusal = Refusal(3);
 
-    // The command is discarded in buffer-full condition.
     pub const DISCARDED: Refusal = Refusal(4);
 
-    // The reply buffer is under 64 bytes.
     pub const SMALL_BUFFER: Refusal = Refusal(5);
 
-    // Start: the unit is above 7 or not attached.
     pub const NOT_ATTACHED: Refusal = Refusal(6);
 
-    // Start: a task runs on the unit.
     pub const UNIT_BUSY: Refusal = Refusal(7);
 
-    // Start: no waiting task may run.
     pub const NOTHING_TO_START: Refusal = Refusal(8);
 
-    // Finish: no running task has this arrival number.
     pub const NOT_RUNNING: Refusal = Refusal(9);
 
-    // Finish: the status is none of the four, or the sense key is above 15.
     pub const BAD_STATUS: Refusal = Refusal(10);
 
-    // Setup: no path, over 8, or an id twice.
     pub const BAD_PATHS: Refusal = Refusal(11);
 
-    // The transcript is malformed.
     pub const MALFORMED: Refusal = Refusal(12);
 
-    // The table handed in is not sound.
     pub const NOT_SOUND: Refusal = Refusal(13);
 
-    // Not a reply that the engine can write.
     pub const NOT_WRITABLE: Refusal = Refusal(14);
 }
 
@@ -135,6 +150,11 @@ impl Sense {
         qualifier: 0x00,
     };
 }
+
+// Byte 8 of a STATUS with sense, and byte 15 (003, table 10).
+pub const CURRENT_ERROR: u8 = 0x70;
+
+pub const ADDITIONAL_SENSE_LENGTH: u8 = 0x0a;
 
 // QUEUE CNTL (003, table 6).
 pub struct Queue(pub u8);

@@ -18,7 +18,7 @@ pub fn word(high: u8, low: u8) -> u16
 }
 
 // Two words, the high one first.
-pub fn long(high: u16, low: u16) -> u32
+pub(crate) fn long(high: u16, low: u16) -> u32
     ensures { λ r. ⌜ r ≡ high * 65536 + low ⌝ }
 {
     (high as u32) * 65536 + (low as u32)

@@ -3,3 +3,4 @@ pub mod block;
 pub mod codes;
 pub mod fields;
 pub mod message;
+mod tables;

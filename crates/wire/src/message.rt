@@ -1,12 +1,18 @@
-// The messages that are received: a table of their codes, lengths and reserved bits, and the reader that goes by it.
+// The messages that are received, and the reader of them, which goes by the tables.
 ghost use mathlib.Core.Path.{_≡_};
 ghost use Rattle.wire.specs.Fields;
 ghost use Rattle.wire.specs.Messages.{flagsOf, rowOf, fieldsOf, readOf, reservedSet};
 use crate::codes::Queue;
 use crate::codes::Refusal;
+use crate::codes::SMS_CODE;
 use crate::fields::byte_at;
 use crate::fields::long;
 use crate::fields::word;
+use crate::tables::CODES;
+use crate::tables::LENGTHS;
+use crate::tables::MASKS;
+use crate::tables::ROWS;
+use crate::tables::WIDTH;
 
 // Byte 10 of a command.
 pub struct Flags {
@@ -57,24 +63,6 @@ pub enum Message {
     Refused(Refusal),
 }
 
-const SMS_CODE: u8 = 0x83;
-
-// The table of messages, a row for each kind: its S3P CODE (table 4), the length needed (tables 5 and 14 to 19) ..
-const ROWS: usize = 7;
-
-const CODES: [u8; 7] = [0x10, 0x30, 0x31, 0x32, 0x33, 0x34, 0x35];
-
-const LEASTS: [usize; 7] = [11, 10, 9, 9, 8, 9, 9];
-
-// .. and the reserved bits of its first 16 bytes: a command has bytes 9, 11, 14 and 15, and bits 3 and 2 of byte 10.
-const WIDTH: usize = 16;
-
-const COMMAND: [u8; 16] = [0, 0, 0, 0, 0, 0, 0, 0, 0, 255, 12, 255, 0, 0, 255, 255];
-
-const NONE: [u8; 16] = [0, 0, 0, 0, 0, 0, 0, 0, 0, 0, 0, 0, 0, 0, 0, 0];
-
-const MASKS: [[u8; 16]; 7] = [COMMAND, NONE, NONE, NONE, NONE, NONE, NONE];
-
 // The row of an S3P CODE, or ROWS where it is not one handled.
 fn row_of(code: u8) -> usize
     ensures { λ r. ⌜ r ≡ rowOf code ⌝ }
@@ -101,14 +89,14 @@ fn flags_of(b: u8) -> Flags
     }
 }
 
-// TAG.
+// TAG, bytes 2 and 3 of every message.
 fn tag_of(m: &[u8]) -> u16
     ensures { λ r. ⌜ r ≡ Fields.word (now (m .entry)) 2 ⌝ }
 {
     word(byte_at(m, 2), byte_at(m, 3))
 }
 
-// RETURN PATH ID.
+// RETURN PATH ID, bytes 4 to 7 of every message.
 fn path_of(m: &[u8]) -> u32
     ensures { λ r. ⌜ r ≡ Fields.long (now (m .entry)) 4 ⌝ }
 {
@@ -159,7 +147,7 @@ pub fn read(m: &[u8]) -> Message
     if row == ROWS {
         return Message::Refused(Refusal::NOT_HANDLED);
     }
-    if m.len() < LEASTS[row] {
+    if m.len() < LENGTHS[row] {
         return Message::Refused(Refusal::TOO_SHORT);
     }
     fields_of(m, row)

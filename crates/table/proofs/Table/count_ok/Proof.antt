@@ -1,6 +1,6 @@
 -- `Table::count_ok` meets its contract. Assumes nothing.
 use Rattle.table.specs.Sound.{countOk}
-use Rattle.table.proofs.Checking.{ways}
+use Rattle.task.proofs.Ways.{ways}
 use Rattle.table.proofs.Table.count_ok.Statement.{statement}
 use Rattle.table.proofs.Table.count_ok.Tie as tie
 

@@ -7,7 +7,8 @@ use borrow.Author.Needs.{needs}
 use Rattle.task.specs.Index.{all}
 use Rattle.task.proofs.Loops.{all-loop}
 use Rattle.table.specs.Sound.{pathsDistinct}
-use Rattle.table.proofs.Checking.{ways, answer-equal, answer-unequal, firstWithId}
+use Rattle.task.proofs.Ways.{ways, answer-equal, answer-unequal}
+use Rattle.table.proofs.Checking.{firstWithId}
 use Rattle.table.proofs.Table.paths_distinct.Statement.{statement}
 use Rattle.table.proofs.Table.paths_distinct.Tie as tie
 

@@ -2,7 +2,6 @@
 use borrow.Author.Needs.{needs}
 use Rattle.task.proofs.Ways.{and-ways}
 use Rattle.table.specs.Sound.{soundOf}
-use Rattle.table.proofs.Checking.{not-told}
 use Rattle.table.proofs.Table.sound.Statement.{statement}
 use Rattle.table.proofs.Table.sound.Tie as tie
 
@@ -39,14 +38,14 @@ units-ok-requires c κs = search needs
 
 returns-5 : tie.Need-returns-5
 unfolding soundOf
-returns-5 c = search and-ways depth 6
+returns-5 c = search and-ways depth 8
 
 clashes-requires : tie.Need-clashes-requires
 clashes-requires c κs = search needs
 
 returns-6 : tie.Need-returns-6
 unfolding soundOf
-returns-6 c = search (and-ways, not-told) depth 7
+returns-6 c = search and-ways depth 8
 
 pub sound-spec : {M : Type 1} → statement M
 sound-spec =

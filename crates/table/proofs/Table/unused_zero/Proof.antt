@@ -7,7 +7,8 @@ use borrow.Author.Needs.{needs}
 use Rattle.task.specs.Index.{all}
 use Rattle.task.proofs.Loops.{all-loop}
 use Rattle.table.specs.Sound.{unusedZero}
-use Rattle.table.proofs.Checking.{ways, usedOrZero}
+use Rattle.task.proofs.Ways.{ways}
+use Rattle.table.proofs.Checking.{usedOrZero}
 use Rattle.table.proofs.Table.unused_zero.Statement.{statement}
 use Rattle.table.proofs.Table.unused_zero.Tie as tie
 

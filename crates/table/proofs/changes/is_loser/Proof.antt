@@ -1,5 +1,5 @@
 -- `changes::is_loser` meets its contract: not listed, the sender's, or as it is told. Assumes nothing.
-use Rattle.table.proofs.Checking.{ways}
+use Rattle.task.proofs.Ways.{ways}
 use Rattle.table.proofs.changes.is_loser.Statement.{statement}
 use Rattle.table.proofs.changes.is_loser.Tie as tie
 

@@ -1,5 +1,5 @@
 -- `paths::has_id` meets its contract, for a listed path and for another. Assumes nothing.
-use Rattle.table.proofs.Checking.{ways}
+use Rattle.task.proofs.Ways.{ways}
 use Rattle.table.proofs.paths.has_id.Statement.{statement}
 use Rattle.table.proofs.paths.has_id.Tie as tie
 

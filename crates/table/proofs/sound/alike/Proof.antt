@@ -1,7 +1,7 @@
 -- `sound::alike` meets its contract, for each way in which two tasks can be alike and for none. Assumes nothing.
 use mathlib.Core.Logic.{⊎-elim}
 use borrow.Author.Needs.{needs}
-use Rattle.table.proofs.Checking.{ways}
+use Rattle.task.proofs.Ways.{ways}
 use Rattle.table.proofs.sound.alike.Statement.{statement}
 use Rattle.table.proofs.sound.alike.Tie as tie
 

@@ -1,6 +1,6 @@
 -- `sound::clash` meets its contract: only live records clash. Assumes nothing.
 use borrow.Author.Needs.{needs}
-use Rattle.table.proofs.Checking.{ways}
+use Rattle.task.proofs.Ways.{ways}
 use Rattle.table.proofs.sound.clash.Statement.{statement}
 use Rattle.table.proofs.sound.clash.Tie as tie
 

@@ -1,6 +1,6 @@
 -- `sound::is_no_path` meets its contract: the fields are asked one after another. Assumes nothing.
 use borrow.Author.Needs.{needs}
-use Rattle.table.proofs.Checking.{ways}
+use Rattle.task.proofs.Ways.{ways}
 use Rattle.table.proofs.sound.is_no_path.Statement.{statement}
 use Rattle.table.proofs.sound.is_no_path.Tie as tie
 

@@ -1,6 +1,6 @@
 -- `sound::live_ok` meets its contract: the clauses are asked one after another. Assumes nothing.
 use borrow.Author.Needs.{needs}
-use Rattle.table.proofs.Checking.{ways}
+use Rattle.task.proofs.Ways.{ways}
 use Rattle.table.proofs.sound.live_ok.Statement.{statement}
 use Rattle.table.proofs.sound.live_ok.Tie as tie
 

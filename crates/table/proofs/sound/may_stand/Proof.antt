@@ -1,6 +1,6 @@
 -- `sound::may_stand` meets its contract: only an ACA task asks for an owner. Assumes nothing.
 use borrow.Author.Needs.{needs}
-use Rattle.table.proofs.Checking.{ways}
+use Rattle.task.proofs.Ways.{ways}
 use Rattle.table.proofs.sound.may_stand.Statement.{statement}
 use Rattle.table.proofs.sound.may_stand.Tie as tie
 

@@ -1,6 +1,6 @@
 -- `sound::record_ok` meets its contract, for a live record and for a dead one. Assumes nothing.
 use borrow.Author.Needs.{needs}
-use Rattle.table.proofs.Checking.{ways}
+use Rattle.task.proofs.Ways.{ways}
 use Rattle.table.proofs.sound.record_ok.Statement.{statement}
 use Rattle.table.proofs.sound.record_ok.Tie as tie
 

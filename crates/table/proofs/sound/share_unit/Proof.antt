@@ -1,7 +1,7 @@
 -- `sound::share_unit` meets its contract: both run, or both are ACA tasks. Assumes nothing.
 use mathlib.Core.Logic.{⊎-elim}
 use borrow.Author.Needs.{needs}
-use Rattle.table.proofs.Checking.{ways}
+use Rattle.task.proofs.Ways.{ways}
 use Rattle.table.proofs.sound.share_unit.Statement.{statement}
 use Rattle.table.proofs.sound.share_unit.Tie as tie
 

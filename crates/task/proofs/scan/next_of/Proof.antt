@@ -4,7 +4,7 @@
 -- Assumes nothing.
 use mathlib.Core.Path.{_≡_, refl, sym, ap, _∙_}
 use mathlib.Core.Bool.{Bool, true, false}
-use mathlib.Core.Logic.{_⊎_, inl, inr}
+use mathlib.Core.Logic.{inl, inr}
 use mathlib.Core.Option.{Option, none as free, some as holds}
 use mathlib.Core.WellFounded.{WellFounded, InvImage·wf}
 use mathlib.Core.List.{List, [], _∷_}
@@ -51,6 +51,7 @@ use Rattle.task.specs.declared.select.Selection.{Selection}
 use Rattle.task.specs.declared.scan.Pick.{Pick}
 use Rattle.task.specs.Tasks.{noTask}
 use Rattle.task.specs.Scan.{nobody, considered, scanFrom, scan}
+use Rattle.task.proofs.Ways.{either-way}
 use Rattle.task.proofs.Lending.{offset-fits, Owned, looks-at, shuts-at}
 use Rattle.task.proofs.Scanning.{scan-step, scan-end}
 use Rattle.task.proofs.Walking.{Slot, envOf, onto, leaves, local, copied, contractOf, brings, calls, After, ends, meets}
@@ -82,10 +83,6 @@ slice = sliceTy (tyRef (named 0) imm (pointee (T.the-row .written)))
 
 abbrev size : ℕ
 size = Memory.mem T.the-row .size
-
-test : (t : Bool) → (t ≡ true) ⊎ (t ≡ false)
-test true = inl refl
-test false = inr refl
 
 module _ {M : Type 1} (𝓤 : URA M) (H : Heap 𝓤) (A : Atoms 𝓤) (mem : Memory → SProp 𝓤) (run : Routine → Fun 𝓤) where
   -- the contracts that the proof cites
@@ -226,7 +223,7 @@ module _ {M : Type 1} (𝓤 : URA M) (H : Heap 𝓤) (A : Atoms 𝓤) (W : Given
           by ! (exits (x .1) (x .2) (x .4) (sym (scan-end live s (x .1) (x .0) ys (x .3) (ltb-false (x .0) n done)) ∙ x .5))
 
       turns : (x : State) → Sq W (At x) (runs (𝓣 .C) (𝓣 .Λ) En mir.turn-1 (anyQ (Turned x)))
-      turns x = elim (test (ltb (x .0) n)) [ inl less ↦ more x less | inr done ↦ over x done ]
+      turns x = elim (either-way (ltb (x .0) n)) [ inl less ↦ more x less | inr done ↦ over x done ]
 
       starts : Sq W (With (locals free free free free free)) (runs (𝓣 .C) (𝓣 .Λ) En mir.t-1 (atRet En Post))
       starts =

@@ -1,6 +1,6 @@
 -- `select::picked_live` meets its contract. Assumes nothing.
 use borrow.Author.Needs.{needs}
-use Rattle.task.proofs.Ways.{and-ways}
+use Rattle.task.proofs.Ways.{ways}
 use Rattle.task.proofs.select.picked_live.Statement.{statement}
 use Rattle.task.proofs.select.picked_live.Tie as tie
 
@@ -11,10 +11,10 @@ picked-requires : tie.Need-picked-requires
 picked-requires c κs = search needs
 
 returns : tie.Need-returns
-returns c = search and-ways
+returns c = search ways
 
 returns-2 : tie.Need-returns-2
-returns-2 c = search and-ways
+returns-2 c = search ways
 
 pub picked-live-spec : {M : Type 1} → statement M
 picked-live-spec = tie.close (tie.spec is-live-requires picked-requires returns returns-2)

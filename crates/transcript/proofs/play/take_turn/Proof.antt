@@ -13,17 +13,11 @@ idle-requires c κs = search needs
 returns : tie.Need-returns
 returns c = search turn-cases
 
-at-state-requires : tie.Need-at-state-requires
-at-state-requires c κs = search needs
-
 idle-requires-2 : tie.Need-idle-requires-2
 idle-requires-2 c κs = search needs
 
 returns-2 : tie.Need-returns-2
 returns-2 c = search turn-cases
-
-at-state-requires-2 : tie.Need-at-state-requires-2
-at-state-requires-2 c κs = search needs
 
 idle-requires-3 : tie.Need-idle-requires-3
 idle-requires-3 c κs = search needs
@@ -37,9 +31,6 @@ event-at-requires c κs = search needs
 enum-told : tie.Need-enum-told
 enum-told c = search needs
 
-at-state-requires-3 : tie.Need-at-state-requires-3
-at-state-requires-3 c κs = search needs
-
 idle-requires-4 : tie.Need-idle-requires-4
 idle-requires-4 c κs = search needs
 
@@ -49,8 +40,8 @@ enum-known-e c = search needs
 call-requires : tie.Need-call-requires
 call-requires c κs = search needs
 
-add-t22 : tie.Need-add-t22
-add-t22 c = search needs
+add-number : tie.Need-add-number
+add-number c = search needs
 
 returns-4 : tie.Need-returns-4
 returns-4 c = search turn-cases
@@ -65,18 +56,15 @@ take-turn-spec =
     is-playing-requires
     idle-requires
     returns
-    at-state-requires
     idle-requires-2
     returns-2
-    at-state-requires-2
     idle-requires-3
     returns-3
     event-at-requires
     enum-told
-    at-state-requires-3
     idle-requires-4
     enum-known-e
     call-requires
-    add-t22
+    add-number
     returns-4
     returns-5)

@@ -1,0 +1,143 @@
+-- Where a call's answer is a reply, it is one that can be written, and it stands at the front of the buffer: rule by rule, order by order, and for what a device may send. Assumes nothing.
+use Prim.Native.Nat.{ℕ, _≤_, _/_, _%_}
+use mathlib.Core.Path.{_≡_, refl, sym, ap, _∙_}
+use mathlib.Core.Bool.{Bool, true, false, cond, not, _&&_, _||_}
+use mathlib.Core.List.{List, _∷_}
+use mathlib.Core.Option.{Option, none, some}
+use native.Mathlib.Omega.{arith}
+use lib.ListN.{length, replicate}
+use lib.Dec.{eqb, leb}
+use borrow.Author.Tests.{le-ltb}
+use Rattle.wire.specs.Paper
+use Rattle.wire.specs.Messages.{reservedSet}
+use Rattle.wire.specs.declared.codes.Refusal.{Refusal}
+use Rattle.wire.specs.declared.codes.ReturnCode.{ReturnCode}
+use Rattle.wire.specs.declared.codes.StatusByte.{StatusByte}
+use Rattle.wire.specs.declared.codes.Sense.{Sense}
+use Rattle.wire.specs.declared.message.Flags.{Flags}
+use Rattle.reply.specs.Replies.{isNone, writableOf, senseBytes, bytesOf}
+use Rattle.reply.specs.Calls.{leftOf}
+use Rattle.reply.specs.declared.Reply.{Reply}
+use Rattle.reply.specs.declared.Reply.the-variants as reply
+use Rattle.task.proofs.Ways.{never, cond-ind, both}
+use Rattle.table.specs.declared.Table.{Table}
+use Rattle.rules.specs.Rules.{roomRules, fieldRules, unitRules, blockRules, accepts, commandRules, deciding}
+use Rattle.rules.specs.Management.{hasUnit, carriedCode, orderCode}
+use Rattle.rules.specs.declared.rules.Facts.{Facts}
+use Rattle.rules.specs.declared.rules.Ruling.{Ruling}
+use Rattle.rules.specs.declared.manage.Order.{Order}
+use Rattle.rules.specs.declared.manage.Order.the-variants as order
+use Rattle.rules.proofs.Entries.{everyGives, given-meets}
+use Rattle.plan.specs.Plans.{ruled, planOf}
+use Rattle.plan.specs.declared.What.{What}
+use Rattle.plan.specs.declared.What.the-variants.{Command, Manage}
+use Rattle.plan.specs.declared.Answer.{Answer}
+use Rattle.plan.specs.declared.Answer.the-variants as answer
+use Rattle.plan.proofs.Promises.{order-answer}
+use Rattle.engine.specs.Calls.{refused, planAt, mayFinish, sentSense, replied, Answers}
+use Rattle.engine.specs.Promises.{replyOf, Written, RepliesAreWritten}
+use Rattle.engine.specs.declared.Outcome.{Outcome}
+use Rattle.engine.proofs.Outcomes.{each-heard, each-sent}
+
+-- ---- every answer that is a reply can be written
+
+abbrev fits : Option Reply → Bool
+fits none = true
+fits (some r) = writableOf r
+
+abbrev Fits : Answer → Type 0
+Fits a = fits (replyOf a) ≡ true
+
+-- a command: a test of every rule's answer, and of acceptance
+ruling-fits : (f : Facts) (next p tag : ℕ) (m : List ℕ) (lun : ℕ) (flags : Flags) → Fits (ruled next p tag lun flags (deciding f flags m .gives) .answer)
+unfolding everyGives commandRules roomRules fieldRules unitRules blockRules writableOf
+ruling-fits f next p tag m lun flags =
+    given-meets (λ (r : Ruling). fits (replyOf (ruled next p tag lun flags r .answer))) (commandRules f flags m) (accepts m) refl refl
+
+-- an order: each of its return codes
+module _ (tag : ℕ) where
+  abbrev CodeFits : ReturnCode → Type 0
+  CodeFits code = writableOf (reply.Response tag code) ≡ true
+
+  carried-fits : (f : Facts) (o : Order) → CodeFits (carriedCode f o)
+  unfolding writableOf
+  carried-fits f (order.AbortTask tag2) = cond-ind CodeFits (f .taken) (λ _. refl) (λ _. refl)
+  carried-fits f (order.AbortTaskSet lun) = refl
+  carried-fits f (order.ClearTaskSet lun) = refl
+  carried-fits f (order.ClearAca lun) = cond-ind CodeFits (f .owned) (λ _. refl) (λ _. refl)
+  carried-fits f (order.UnitReset lun) = refl
+  carried-fits f order.TargetReset = refl
+
+  code-fits : (f : Facts) (m : List ℕ) (o : Order) → CodeFits (orderCode f m o)
+  unfolding orderCode writableOf
+  code-fits f m o =
+      cond-ind CodeFits (reservedSet m) (λ _. refl)
+      (λ _. cond-ind CodeFits (hasUnit o && not (f .attached)) (λ _. refl) (λ _. carried-fits f o))
+
+plan-fits : (f : Facts) (next p tag : ℕ) (m : List ℕ) (w : What) → Fits (planOf f next p tag m w .answer)
+plan-fits f next p tag m (Command lun flags) = ruling-fits f next p tag m lun flags
+plan-fits f next p tag m (Manage o) = ap (λ (a : Answer). fits (replyOf a)) (order-answer f p tag m o) ∙ code-fits tag f m o
+
+-- a finish: the four statuses that a device may send, and its sense key
+sent-fits : (tag : ℕ) (status : StatusByte) (s : Sense) → mayFinish status s ≡ true → Fits (answer.Status tag status (sentSense status s))
+unfolding writableOf
+sent-fits tag status s =
+    let is : StatusByte → Bool = λ x. eqb (status .0) (x .0) in
+    cases (is Paper.checkCondition) (is Paper.good) (is Paper.conditionMet) (is Paper.reservationConflict) (is Paper.taskSetFull || (is Paper.acaActive || false))
+  where
+    cases : (checked good met reserved others : Bool) → (leb (s .key) 15 && (good || (checked || (met || reserved)))) ≡ true
+        → cond checked (leb (cond checked s Paper.noSense .key) 15) (isNone (cond checked s Paper.noSense) && (good || (met || (reserved || others)))) ≡ true
+    cases true good met reserved others h = both _ _ h .0
+    cases false true met reserved others h = refl
+    cases false false true reserved others h = refl
+    cases false false false true others h = refl
+    cases false false false false others h = absurd (never (both (leb (s .key) 15) _ h .1) refl)
+
+-- ---- what fits is written
+
+-- the buffer, by the reply
+abbrev leftBy : List ℕ → Option Reply → List ℕ
+leftBy buf none = buf
+leftBy buf (some r) = leftOf r buf
+
+replied-by : (a : Answer) (buf : List ℕ) → replied a buf ≡ leftBy buf (replyOf a)
+unfolding replied
+replied-by answer.Ready buf = refl
+replied-by (answer.Accepted n) buf = refl
+replied-by (answer.Response tag code) buf = refl
+replied-by (answer.Status tag status sense) buf = refl
+replied-by (answer.Started n) buf = refl
+replied-by answer.Reset buf = refl
+replied-by (answer.Refused n) buf = refl
+
+no-longer : (r : Reply) → length (bytesOf r) ≤ Paper.replyRoom
+unfolding bytesOf
+no-longer (reply.Response tag code) = omega arith
+no-longer (reply.Status tag status s) =
+    cond-ind (λ (l : List ℕ). length (Paper.smsCode ∷ Paper.scsiStatus ∷ tag / 256 ∷ tag % 256 ∷ status .0 ∷ 0 ∷ 0 ∷ 0 ∷ l) ≤ 64)
+    (eqb (status .0) (Paper.checkCondition .0)) {x = senseBytes s} {y = replicate 18 0} (λ _. omega arith) (λ _. omega arith)
+
+written : (a : Answer) (buf : List ℕ) (r : Reply) → Paper.replyRoom ≤ length buf → Fits a → replyOf a ≡ some r → Written r buf (replied a buf)
+unfolding leftOf
+written a buf r l f e =
+    let w : writableOf r ≡ true = sym (ap fits e) ∙ f in
+    record { writable = w; no-longer = no-longer r; in-front = replied-by a buf ∙ ap (leftBy buf) e ∙ rw (le-ltb (length buf) 64 l, w) }
+
+-- what a call's outcome has to be for that
+abbrev Sends : List ℕ → Outcome → Type 0
+Sends buf o = (r : Reply) → replyOf (o .answer) ≡ some r → Written r buf (replied (o .answer) buf)
+
+refusal-sends : (buf : List ℕ) (t : Table) (n : Refusal) → Sends buf (refused t n)
+refusal-sends buf t n r e = let z : _≡_ {A = ℕ} 0 1 = cc in absurd (omega arith)
+
+by-contract : {defined o : Outcome} (buf : List ℕ) {left : List ℕ} (r : Reply) → Sends buf defined → Answers defined buf o left → replyOf (o .answer) ≡ some r → Written r buf left
+by-contract buf r sends x e = rw (x .buffer) (sends r (rw (x .outcome) at e))
+
+pub replies-are-written : RepliesAreWritten
+unfolding planAt
+replies-are-written = record {
+  message = λ t m buf _ _ r.
+      by-contract buf r (each-heard (Sends buf) t (refusal-sends buf t) m (length buf) (λ l path tag w _ _ r. written _ buf r l (plan-fits _ _ _ tag m w)));
+  finish = λ t arrival status s buf _ _ r.
+      by-contract buf r (each-sent (Sends buf) t (refusal-sends buf t) arrival status s (length buf) (λ l h _ r. written _ buf r l (sent-fits _ status s h)));
+}

@@ -1,0 +1,78 @@
+// How many messages were answered in each of the four ways.
+use libc::STDOUT_FILENO;
+use plan::Answer;
+use std::num::wrapping_add_u64;
+use wire::codes::ReturnCode;
+
+pub struct Tally {
+    pub accepted: u64,
+    pub done: u64,
+    pub overlapped: u64,
+    pub not_found: u64,
+}
+
+pub(crate) fn empty() -> Tally {
+    Tally {
+        accepted: 0,
+        done: 0,
+        overlapped: 0,
+        not_found: 0,
+    }
+}
+
+// A RESPONSE more, by its RETURN CODE.
+fn response(t: Tally, code: u8) -> Tally {
+    if code == ReturnCode::DONE.0 {
+        return Tally {
+            done: wrapping_add_u64(t.done, 1),
+            ..t
+        };
+    }
+    if code == ReturnCode::OVERLAPPED.0 {
+        return Tally {
+            overlapped: wrapping_add_u64(t.overlapped, 1),
+            ..t
+        };
+    }
+    if code == ReturnCode::TASK_NOT_FOUND.0 {
+        return Tally {
+            not_found: wrapping_add_u64(t.not_found, 1),
+            ..t
+        };
+    }
+    t
+}
+
+// An answer more. A RESPONSE counts by its byte in the reply buffer, so that no compiler can leave the reply out.
+pub(crate) fn add(t: Tally, a: Answer, reply: &[u8; 64]) -> Tally {
+    match a {
+        Answer::Accepted(_) => Tally {
+            accepted: wrapping_add_u64(t.accepted, 1),
+            ..t
+        },
+        Answer::Response { tag: _, code: _ } => response(t, reply[4]),
+        Answer::Ready => t,
+        Answer::Status {
+            tag: _,
+            status: _,
+            sense: _,
+        } => t,
+        Answer::Started(_) => t,
+        Answer::Reset => t,
+        Answer::Refused(_) => t,
+    }
+}
+
+// A word, and the number behind it.
+pub(crate) fn say(word: &[u8], n: u64) {
+    io::write_all(STDOUT_FILENO, word);
+    io::print_decimal(STDOUT_FILENO, n);
+}
+
+// The four numbers.
+pub(crate) fn say_all(t: Tally) {
+    say(b"accepted ", t.accepted);
+    say(b" 00h ", t.done);
+    say(b" 04h ", t.overlapped);
+    say(b" 01h ", t.not_found);
+}

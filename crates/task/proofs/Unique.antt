@@ -1,0 +1,15 @@
+-- The answers are one: each by the law that an equation determines its left side. Assumes nothing.
+use Rattle.task.specs.Unique.{AnswersAreOne}
+use Rattle.task.proofs.Promises.{determined}
+
+pub answers-are-one : AnswersAreOne
+answers-are-one = record {
+  no-task = λ _ _. determined;
+  lowest-free = λ _ _ _. determined;
+  live-count = λ _ _ _. determined;
+  is-live = λ _ _ _ _. determined;
+  with-bit = λ _ _ _ _. determined;
+  without-bit = λ _ _ _ _. determined;
+  picked-live = λ _ _ _ _ _ _. determined;
+  next-of = λ _ _ _ _ _. determined;
+}

@@ -1,0 +1,20 @@
+-- Each public function's contract determines its answer: two answers that are each what it says are equal. Proved in proofs/Unique.antt.
+use Prim.Native.Nat.{ℕ}
+use mathlib.Core.List.{List}
+use Rattle.task.specs.Tasks.{noTask}
+use Rattle.task.specs.Map.{isLive, lowestFree, liveCount, withBit, withoutBit}
+use Rattle.task.specs.Selections.{picksLive}
+use Rattle.task.specs.Scan.{scan}
+use Rattle.task.specs.Promises.{One}
+use Rattle.task.specs.declared.Task.{Task}
+use Rattle.task.specs.declared.select.Selection.{Selection}
+
+pub record AnswersAreOne : Type 0 where
+  pub no-task : One noTask
+  pub lowest-free : (live : ℕ) → One (lowestFree live)
+  pub live-count : (live : ℕ) → One (liveCount live)
+  pub is-live : (live i : ℕ) → One (isLive live i)
+  pub with-bit : (live i : ℕ) → One (withBit live i)
+  pub without-bit : (live i : ℕ) → One (withoutBit live i)
+  pub picked-live : (live : ℕ) (s : Selection) (i : ℕ) (a : Task) → One (picksLive live s i a)
+  pub next-of : (tasks : List Task) (live : ℕ) (s : Selection) → One (scan live s tasks)
