@@ -115,7 +115,7 @@ module _ (a b : Task) where
     | inl e ↦ same-arrival (eqb-true _ _ e)
     | inr k ↦ elim (either (eqb (a .path) (b .path) && eqb (a .tag) (b .tag)) _ k) [
       | inl e ↦ let f = both _ _ e in same-name (eqb-true _ _ (f .0)) (eqb-true _ _ (f .1))
-      | inr e ↦ let f = both _ _ e in unit-clash (eqb-true _ _ (f .0)) (f .1)
+      | inr e ↦ let f = both _ _ e in unit-clash (eqb-true _ _ (f .1)) (f .0)
     ]
   ]
 

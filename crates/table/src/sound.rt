@@ -149,10 +149,10 @@ fn alike(a: Task, b: Task) -> bool
             return true;
         }
     }
-    if a.unit != b.unit {
+    if !share_unit(a, b) {
         return false;
     }
-    share_unit(a, b)
+    a.unit == b.unit
 }
 
 // Both run, or both are ACA tasks.
