@@ -13,14 +13,27 @@ enum Kind {
     Simple,
 }
 
+#[derive(Clone, Copy, PartialEq)]
+#[allow(dead_code)]
+enum Phase {
+    Waiting,
+    Running,
+    Unconfirmed,
+}
+
+// What start and finish would read is kept and not read here.
 #[derive(Clone, Copy)]
+#[allow(dead_code)]
 struct Task {
     arrival: u64,
+    transferred: u64,
+    offset: u32,
     tag: u16,
-    path: usize,
+    path: u8,
     unit: u8,
     kind: Kind,
-    running: bool,
+    phase: Phase,
+    confirm: bool,
 }
 
 #[derive(Clone, Copy, PartialEq)]
@@ -43,6 +56,9 @@ enum Answer {
     Accepted(u64),
     Response(u8),
     Status(u8, [u8; 3]),
+    Invalid,
+    Confirmed(u64),
+    Restarted(u64),
     Refused(u8),
 }
 
@@ -99,7 +115,7 @@ impl Engine {
     }
 
     fn has_task(&self, path: usize, tag: u16) -> bool {
-        self.live().any(|t| t.path == path && t.tag == tag)
+        self.live().any(|t| t.path == path as u8 && t.tag == tag)
     }
 
     fn end(&mut self, picked: impl Fn(&Task) -> bool) {
@@ -116,10 +132,10 @@ impl Engine {
         let owned =
             (0..8).all(|u| self.aca[u as usize].is_none_or(|p| p < n && self.is_attached(u)));
         let each = self.live().all(|t| {
-            t.path < n
+            (t.path as usize) < n
                 && self.is_attached(t.unit)
                 && t.arrival < self.next
-                && (t.kind != Kind::Aca || self.aca[t.unit as usize] == Some(t.path))
+                && (t.kind != Kind::Aca || self.aca[t.unit as usize] == Some(t.path as usize))
         });
         (1..=8).contains(&n) && distinct && owned && each && !self.clashes()
     }
@@ -131,7 +147,7 @@ impl Engine {
                     a.arrival == b.arrival
                         || a.path == b.path && a.tag == b.tag
                         || a.unit == b.unit
-                            && (a.running && b.running
+                            && (a.phase == Phase::Running && b.phase == Phase::Running
                                 || a.kind == Kind::Aca && b.kind == Kind::Aca)
                 })
             })
@@ -150,6 +166,7 @@ impl Engine {
         }
         let least = match (m[0], m[1]) {
             (0x83, 0x10) => 11,
+            (0x83, 0x12) => 17,
             (0x83, 0x30) => 10,
             (0x83, 0x33) => 8,
             (0x83, 0x31 | 0x32 | 0x34 | 0x35) => 9,
@@ -163,10 +180,10 @@ impl Engine {
             return Answer::Refused(3);
         };
         let tag = word(m, 2);
-        let answer = if m[1] == 0x10 {
-            self.command(m, path, tag)
-        } else {
-            Answer::Response(self.manage(m, path))
+        let answer = match m[1] {
+            0x10 => self.command(m, path, tag),
+            0x12 => self.confirm(m, path, tag),
+            _ => Answer::Response(self.manage(m, path)),
         };
         write(&answer, tag, reply);
         answer
@@ -198,14 +215,11 @@ impl Engine {
             return Answer::Refused(1);
         }
         self.paths[path].full = false;
-        if m[9] != 0
-            || flags & 0x0c != 0
-            || m[11] != 0
-            || m[14] != 0
-            || m[15] != 0
-            || flags & 0x10 != 0
-        {
+        if m[9] != 0 || flags & 0x0c != 0 || m[11] != 0 || m[14] != 0 || m[15] != 0 {
             return Answer::Response(0xff);
+        }
+        if flags & 0x50 == 0x50 {
+            return Answer::Invalid;
         }
         if self.has_task(path, tag) {
             return Answer::Response(0x04);
@@ -244,13 +258,44 @@ impl Engine {
         self.next += 1;
         self.tasks[free] = Some(Task {
             arrival,
+            transferred: 0,
+            offset: 0,
             tag,
-            path,
+            path: path as u8,
             unit: lun,
             kind,
-            running: false,
+            phase: Phase::Waiting,
+            confirm: flags & 0x10 != 0,
         });
         Answer::Accepted(arrival)
+    }
+
+    fn confirm(&mut self, m: &[u8], path: usize, tag: u16) -> Answer {
+        if m[16] & 0x7f != 0 {
+            return Answer::Response(0xff);
+        }
+        let awaited =
+            |t: &Task| t.path == path as u8 && t.tag == tag && t.phase == Phase::Unconfirmed;
+        let Some(slot) = self
+            .tasks
+            .iter_mut()
+            .find(|t| t.as_ref().is_some_and(awaited))
+        else {
+            return Answer::Refused(15);
+        };
+        let task = slot.as_mut().unwrap();
+        let arrival = task.arrival;
+        if m[16] & 0x80 != 0 {
+            *slot = None;
+            return Answer::Confirmed(arrival);
+        }
+        let offset = u32::from_be_bytes([m[12], m[13], m[14], m[15]]);
+        if offset as u64 > task.transferred {
+            return Answer::Response(0xff);
+        }
+        task.phase = Phase::Waiting;
+        task.offset = offset;
+        Answer::Restarted(arrival)
     }
 
     fn manage(&mut self, m: &[u8], path: usize) -> u8 {
@@ -264,13 +309,13 @@ impl Engine {
                 if !self.has_task(path, tag) {
                     return 0x01;
                 }
-                self.end(|t| t.path == path && t.tag == tag);
+                self.end(|t| t.path == path as u8 && t.tag == tag);
             }
-            0x31 => self.end(|t| t.path == path && t.unit == m[8]),
+            0x31 => self.end(|t| t.path == path as u8 && t.unit == m[8]),
             0x32 => {
                 for other in 0..self.paths.len() {
-                    let lost =
-                        other != path && self.live().any(|t| t.path == other && t.unit == m[8]);
+                    let lost = other != path
+                        && self.live().any(|t| t.path == other as u8 && t.unit == m[8]);
                     if lost && self.paths[other].attention != Attention::Reset {
                         self.paths[other].attention = Attention::Cleared;
                     }
@@ -321,7 +366,13 @@ fn write(answer: &Answer, tag: u16, reply: &mut [u8]) {
             }
             reply[..26].copy_from_slice(&bytes);
         }
-        Answer::Accepted(_) | Answer::Refused(_) => {}
+        Answer::Invalid => {
+            let mut bytes = [0; 26];
+            bytes[..4].copy_from_slice(&[0x83, 0x11, high, low]);
+            bytes[6] = 0xff;
+            reply[..26].copy_from_slice(&bytes);
+        }
+        Answer::Accepted(_) | Answer::Confirmed(_) | Answer::Restarted(_) | Answer::Refused(_) => {}
     }
 }
 

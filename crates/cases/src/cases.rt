@@ -76,6 +76,16 @@ fn flags_of(f: Flags) {
     decimal(queue.0 as usize);
 }
 
+// CONFIRM STATUS, whose path is OLD RETURN PATH ID.
+fn confirm_status(tag: u16, path: u32, new_path: u32, offset: u32, complete: bool) {
+    header(b"confirm status", tag, path);
+    text(b" new ");
+    hex_long(new_path);
+    text(b" offset ");
+    hex_long(offset);
+    flag(b" complete", complete);
+}
+
 // ABORT TASK, whose last field is TAG 2.
 fn abort_task(tag: u16, path: u32, tag2: u16) {
     header(b"abort task", tag, path);
@@ -95,6 +105,13 @@ fn fields(m: Message) {
             with_lun(b"command", tag, path, lun);
             flags_of(flags);
         }
+        Message::ConfirmStatus {
+            tag,
+            path,
+            new_path,
+            offset,
+            complete,
+        } => confirm_status(tag, path, new_path, offset, complete),
         Message::AbortTask { tag, path, tag2 } => abort_task(tag, path, tag2),
         Message::AbortTaskSet { tag, path, lun } => with_lun(b"abort task set", tag, path, lun),
         Message::ClearTaskSet { tag, path, lun } => with_lun(b"clear task set", tag, path, lun),
@@ -186,6 +203,18 @@ fn status(c: &[u8]) {
     written(byte_at(c, 0), r);
 }
 
+// Letter i: the STATUS of an invalid command, from the buffer's length and TAG.
+fn invalid(c: &[u8]) {
+    if c.len() != 3 {
+        bad_case();
+        return;
+    }
+    let r = Reply::Invalid {
+        tag: word(byte_at(c, 1), byte_at(c, 2)),
+    };
+    written(byte_at(c, 0), r);
+}
+
 // The fields of a STATUS.
 fn status_fields(tag: u16, status: StatusByte, sense: Sense) {
     text(b"status tag ");
@@ -206,6 +235,10 @@ fn reply_fields(r: Reply) {
             hex(code.0);
         }
         Reply::Status { tag, status, sense } => status_fields(tag, status, sense),
+        Reply::Invalid { tag } => {
+            text(b"invalid tag ");
+            hex_word(tag);
+        }
     }
 }
 
@@ -264,6 +297,7 @@ pub(crate) fn run(letter: u8, bytes: &[u8]) {
         b'b' => block(bytes),
         b'p' => response(bytes),
         b's' => status(bytes),
+        b'i' => invalid(bytes),
         b'r' => read_reply(bytes),
         b'd' => damage(bytes),
         _ => bad_case(),

@@ -5,6 +5,7 @@ use crate::cases::ROOM;
 use crate::cases::bad_case;
 use crate::cases::refused;
 use crate::print::counted;
+use crate::print::counted_if;
 use crate::print::decimal;
 use crate::print::hex_long;
 use crate::print::hex_word;
@@ -25,7 +26,7 @@ use wire::codes::Sense;
 use wire::codes::StatusByte;
 use wire::fields::byte_at;
 
-// The arrival number that a byte stands for: FEh for 2^64 - 2, FFh for 2^64 - 1.
+// The arrival number, or the number of bytes transferred, that a byte stands for: FEh for 2^64 - 2, FFh for 2^64 - 1.
 pub(crate) fn arrival(b: u8) -> u64 {
     if b == 0xff {
         return 0xffff_ffff_ffff_ffff;
@@ -45,7 +46,7 @@ pub(crate) fn has(c: &[u8], n: usize) -> bool {
     false
 }
 
-// A RESPONSE and a STATUS in the words of a transcript.
+// The replies in the words of a transcript.
 fn say_response(tag: u16, code: ReturnCode) {
     text(b"response ");
     hex_word(tag);
@@ -58,6 +59,17 @@ fn say_status(tag: u16, status: StatusByte, sense: Sense) {
     pairs(&[status.0, sense.key, sense.code, sense.qualifier]);
 }
 
+fn say_invalid(tag: u16) {
+    text(b"invalid ");
+    hex_word(tag);
+}
+
+// A start in the words of a transcript, and the offset that is handed back.
+fn say_started(arrival: u64, offset: u32) {
+    counted(b"started ", arrival);
+    counted_if(b" offset ", offset as u64);
+}
+
 // An answer in the words of a transcript, and `ready` for a setup.
 fn say(a: Answer) {
     match a {
@@ -65,7 +77,10 @@ fn say(a: Answer) {
         Answer::Accepted(n) => counted(b"accepted ", n),
         Answer::Response { tag, code } => say_response(tag, code),
         Answer::Status { tag, status, sense } => say_status(tag, status, sense),
-        Answer::Started(n) => counted(b"started ", n),
+        Answer::Invalid { tag } => say_invalid(tag),
+        Answer::Started { offset, arrival } => say_started(arrival, offset),
+        Answer::Confirmed(n) => counted(b"confirmed ", n),
+        Answer::Restarted(n) => counted(b"restarted ", n),
         Answer::Reset => text(b"reset"),
         Answer::Refused(r) => refused(r),
     }
@@ -156,7 +171,7 @@ fn message(t: Table, c: &[u8]) -> Table {
     receive_in(t, &c[1..], &mut room, byte_at(c, 0) as usize)
 }
 
-// A finish of six bytes, with this reply buffer.
+// A finish of six or seven bytes, with this reply buffer. No byte was transferred where there are six.
 fn end_in(t: Table, c: &[u8], buffer: &mut [u8]) -> Table {
     let o = engine::calls::finish(
         t,
@@ -165,6 +180,7 @@ fn end_in(t: Table, c: &[u8], buffer: &mut [u8]) -> Table {
         byte_at(c, 3),
         byte_at(c, 4),
         byte_at(c, 5),
+        arrival(byte_at(c, 6)),
         buffer,
     );
     let a = o.answer;
@@ -182,10 +198,12 @@ fn finish_in(t: Table, c: &[u8], room: &mut [u8], n: usize) -> Table {
     end_in(t, c, &mut room[0..n])
 }
 
-// Letter F: a finish, from the buffer's length, the arrival number, the status and the sense.
+// Letter F: a finish, from the buffer's length, the arrival number, the status, the sense and, in a seventh byte, the bytes transferred.
 fn finish(t: Table, c: &[u8]) -> Table {
-    if !has(c, 6) {
-        return t;
+    if c.len() != 6 {
+        if !has(c, 7) {
+            return t;
+        }
     }
     let mut room = [FILL; BUFFER];
     finish_in(t, c, &mut room, byte_at(c, 0) as usize)
@@ -223,7 +241,8 @@ fn say_pick(p: Pick) {
         text(b"nobody");
         return;
     }
-    counted(b"next ", p.arrival);
+    let a = p.task;
+    counted(b"next ", a.arrival);
     text(b" at ");
     decimal(p.at);
 }

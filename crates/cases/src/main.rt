@@ -1,4 +1,5 @@
-// Runs cases, bytes and calls: echoes each line of standard input, and answers it where it is a case. A table is kept from line to line.
+// Runs cases, bytes and calls: echoes each line of standard input, then of the file `confirmed`, and answers it where it is a case.
+// A table is kept from line to line of each.
 mod cases;
 mod engine_cases;
 mod print;
@@ -130,9 +131,20 @@ fn lines(text: &[u8]) {
     }
 }
 
-// Standard input is taken up to 65,536 bytes.
-fn main() {
+// Takes the lines of an open file, up to 65,536 bytes.
+fn run_file(fd: i32) {
     let mut buffer = io::large_buffer();
-    let count = io::read_full(STDIN_FILENO, &mut buffer);
+    let count = io::read_full(fd, &mut buffer);
     lines(&buffer[..count]);
+}
+
+fn main() {
+    run_file(STDIN_FILENO);
+    let fd = os::open_read(b"confirmed");
+    if fd < 0 {
+        text(b"confirmed missing\n");
+        return;
+    }
+    run_file(fd);
+    libc::close(fd);
 }

@@ -47,6 +47,13 @@ pub(crate) fn counted(word: &[u8], n: u64) {
     number(n);
 }
 
+// A word and the number behind it, where that is not 0.
+pub(crate) fn counted_if(word: &[u8], n: u64) {
+    if n != 0 {
+        counted(word, n);
+    }
+}
+
 // A word, and 1 or 0 behind it.
 pub(crate) fn flag(word: &[u8], is_set: bool) {
     text(word);

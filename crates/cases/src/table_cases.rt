@@ -3,6 +3,7 @@ use crate::cases::bad_case;
 use crate::engine_cases::arrival;
 use crate::engine_cases::has;
 use crate::print::counted;
+use crate::print::counted_if;
 use crate::print::decimal;
 use crate::print::hex;
 use crate::print::hex_long;
@@ -114,10 +115,11 @@ fn phase_word(p: Phase) {
     match p {
         Phase::Waiting => text(b" waiting "),
         Phase::Running => text(b" running "),
+        Phase::Unconfirmed => text(b" unconfirmed "),
     }
 }
 
-// A record's path, tag, unit, kind, phase and arrival number.
+// A record's path, tag, unit, kind, phase and arrival number; what it keeps for CONFIRM, where that is not zero.
 fn task_fields(a: Task) {
     counted(b" path ", a.path as u64);
     text(b" tag ");
@@ -128,6 +130,9 @@ fn task_fields(a: Task) {
     let phase = a.phase;
     phase_word(phase);
     crate::print::number(a.arrival);
+    word_if(b" confirm", a.confirm);
+    counted_if(b" transferred ", a.transferred);
+    counted_if(b" offset ", a.offset as u64);
 }
 
 // The record at a place, where it is live or not all zero.
@@ -195,6 +200,12 @@ const KIND: u8 = 13;
 
 const PHASE: u8 = 14;
 
+const TRANSFERRED: u8 = 15;
+
+const OFFSET: u8 = 16;
+
+const CONFIRM: u8 = 17;
+
 // How many places a field has: 64 live bits and records, 8 paths and units, one of the others; none where there is no such field.
 fn places(field: u8) -> usize {
     if field == 0 {
@@ -209,7 +220,7 @@ fn places(field: u8) -> usize {
     if field <= OWNER {
         return PATHS;
     }
-    if field <= PHASE {
+    if field <= CONFIRM {
         return RECORDS;
     }
     0
@@ -310,11 +321,15 @@ fn kind_of(value: u8) -> Kind {
     Kind::Simple
 }
 
+// Waiting, running; 2 and above waits to be confirmed.
 fn phase_of(value: u8) -> Phase {
     if value == 0 {
         return Phase::Waiting;
     }
-    Phase::Running
+    if value == 1 {
+        return Phase::Running;
+    }
+    Phase::Unconfirmed
 }
 
 // The record with its path, unit, kind or phase set.
@@ -337,6 +352,26 @@ fn placed_with(a: Task, field: u8, value: u8) -> Task {
     }
 }
 
+// The record with its bytes transferred, its offset or its CONFIRM set.
+fn kept_with(a: Task, field: u8, value: u8) -> Task {
+    if field == TRANSFERRED {
+        return Task {
+            transferred: arrival(value),
+            ..a
+        };
+    }
+    if field == OFFSET {
+        return Task {
+            offset: value as u32,
+            ..a
+        };
+    }
+    Task {
+        confirm: value != 0,
+        ..a
+    }
+}
+
 // The record with a field set.
 fn task_with(a: Task, field: u8, value: u8) -> Task {
     if field == ARRIVAL {
@@ -350,6 +385,9 @@ fn task_with(a: Task, field: u8, value: u8) -> Task {
             tag: value as u16,
             ..a
         };
+    }
+    if field > PHASE {
+        return kept_with(a, field, value);
     }
     placed_with(a, field, value)
 }

@@ -16,12 +16,13 @@ use Rattle.task.specs.declared.select.Selection.{Selection}
 use Rattle.task.proofs.Ways.{either-way, never, both}
 use Rattle.task.proofs.Places.{first-ext}
 use Rattle.task.proofs.Selecting.{picks-named}
-use Rattle.table.specs.Tables.{placeOf, pathOf, anyLive}
+use Rattle.table.specs.Tables.{placeOf, pathOf, anyLive, pickOf}
 use Rattle.table.specs.Sound.{soundOf}
+use Rattle.table.specs.Promises.{Good}
 use Rattle.table.specs.declared.Table.{Table}
-use Rattle.table.proofs.Views.{some-any, any-some}
+use Rattle.table.proofs.Views.{some-any, any-some, any-is-found}
 use Rattle.table.proofs.Exact.{check-is-exact}
-use Rattle.rules.specs.Rules.{factsOf}
+use Rattle.rules.specs.Rules.{factsOf, seenOf}
 use Rattle.rules.specs.Management.{orderCode}
 use Rattle.rules.specs.declared.manage.Order.the-variants as order
 use Rattle.plan.specs.Plans.{unitAsked, clearsSet}
@@ -63,10 +64,13 @@ same-any t u s there back = elim (either-way (anyLive t s)) [
 named-path : (a : Task) (p tag : ℕ) → picks (named p tag) a ≡ true → a .path ≡ p
 named-path a p tag e = eqb-true (a .path) p (both _ _ (sym (picks-named a p tag) ∙ e) .0)
 
-same-taken : {path : ℕ} {t u : Table} → Agree path t u → (tag : ℕ) → anyLive t (named (pathOf t path) tag) ≡ anyLive u (named (pathOf t path) tag)
-same-taken {path = path} {t = t} {u = u} a tag =
-    same-any t u (named (pathOf t path) tag) (λ b e. a .there b (named-path b (pathOf t path) tag e))
-    (λ b e. a .back b (named-path b (pathOf t path) tag e))
+same-taken : {path : ℕ} {t u : Table} → Good t → Good u → Agree path t u → (tag : ℕ)
+    → pickOf t (named (pathOf t path) tag) .found ≡ pickOf u (named (pathOf t path) tag) .found
+same-taken {path = path} {t = t} {u = u} g h a tag =
+    let s = named (pathOf t path) tag in
+    any-is-found t s (g .shaped)
+    ∙ same-any t u s (λ b e. a .there b (named-path b (pathOf t path) tag e)) (λ b e. a .back b (named-path b (pathOf t path) tag e))
+    ∙ sym (any-is-found u s (h .shaped))
 
 -- ---- the answer, by the sender's place and whether it has the task
 
@@ -84,10 +88,10 @@ module _ (t : Table) (m : List ℕ) (path tag tag2 : ℕ) where
   p = pathOf t path
 
   abbrev defined : Answer
-  defined = abortAnswer m tag p (anyLive t (named p tag2))
+  defined = abortAnswer m tag p (pickOf t (named p tag2) .found)
 
-  plan-answer : planAt t m p tag abort .answer ≡ response m tag (anyLive t (named p tag2))
-  unfolding planAt orderCode factsOf
+  plan-answer : planAt t m p tag abort .answer ≡ response m tag (pickOf t (named p tag2) .found)
+  unfolding planAt seenOf orderCode factsOf
   plan-answer = order-answer (factsOf t p tag2 (unitAsked abort) (clearsSet abort)) p tag m (order.AbortTask tag2)
 
   for-answer : planFor t m path tag abort .answer ≡ defined
@@ -114,7 +118,7 @@ pub abort-depends-only : AbortDependsOnly
 abort-depends-only t u m buf tag path tag2 g h l e a =
     let sound-t = check-is-exact t .1 (g .sound) in
     let sound-u = check-is-exact u .1 (h .sound) in
-    let same : defined t m path tag tag2 ≡ defined u m path tag tag2 = rw (same-taken a tag2, same-place a path) in
+    let same : defined t m path tag tag2 ≡ defined u m path tag tag2 = rw (same-taken g h a tag2, same-place a path) in
     let answers = abort-answer t m path tag tag2 (length buf) sound-t l e ∙ same ∙ sym (abort-answer u m path tag tag2 (length buf) sound-u l e) in (
       answers,
       abort-to t m path tag tag2 (length buf) sound-t l e ∙ ap (λ (x : Answer). replyPath x path) same

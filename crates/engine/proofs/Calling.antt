@@ -1,10 +1,12 @@
 -- The calls: a lemma for each way out. Assumes nothing.
 --     gates      for `search`, a call that makes one test after another, under `unfolding` of its definition: what it refuses, and what comes after the last test
---     heard-all, same-table, starts, finishes      what comes after the last test of `heard`, `total_reset`, `start` and `finished`
---     plan-ways, carry-ways, reply-ways, choose-ways, may-ways, setup-ways      for `search`, the ways out of the functions so named
---     answer-ways      for `search`, the contract of a call with a reply buffer, and the ways out of `message`
+--     heard-all, goes-next, judged      what comes after the last test of `heard`, `choose` and `judge`; picks, chosen: what is picked there
+--     plan-ways, reply-ways, go-ways, may-ways, reset-ways, setup-ways      for `search`, the ways out of the functions so named
+--     unread, read-by, carries-out, carries      a message: the plan for what was heard, the table after it, and the outcome
+--     starts, finishes      the outcome by the verdict
+--     answers      the contract of a call with a reply buffer
 use Prim.Native.Nat.{ℕ, _<_, _≤_}
-use mathlib.Core.Path.{_≡_, _∙_}
+use mathlib.Core.Path.{_≡_, refl, _∙_}
 use mathlib.Core.Bool.{Bool, true, false, cond, not, _&&_, _||_}
 use mathlib.Core.List.{List}
 use lib.Dec.{eqb, leb}
@@ -19,29 +21,29 @@ use Rattle.wire.specs.declared.message.Message.{Message}
 use Rattle.reply.specs.Calls.{leftOf}
 use Rattle.reply.specs.declared.Reply.the-variants as reply
 use Rattle.task.specs.Selections.{waitingOn, acaWaitingOn, runningAs}
-use Rattle.task.specs.declared.Kind.{Kind}
-use Rattle.task.specs.declared.Task.{Task}
 use Rattle.task.specs.declared.scan.Pick.{Pick}
 use Rattle.task.specs.declared.select.Selection.{Selection}
 use Rattle.task.proofs.Ways.{answered-true, answered-false}
-use Rattle.table.specs.Tables.{pathOf, pathAt, unitAt, taskAt, pickOf, accepted, endedBy, started, finished}
+use Rattle.table.specs.Tables.{pathOf, pathAt, unitAt, pickOf, started, finished, resetOf}
 use Rattle.table.specs.Setup.{badList, setupTable}
 use Rattle.table.specs.Sound.{soundOf}
+use Rattle.table.specs.declared.Aca.{Aca}
 use Rattle.table.specs.declared.Path as path
 use Rattle.table.specs.declared.Unit as unit
 use Rattle.table.specs.declared.Table.{Table}
-use Rattle.rules.specs.Rules.{hasAca, factsOf}
-use Rattle.rules.specs.declared.rules.Facts.{Facts}
+use Rattle.rules.specs.Rules.{hasAca, seenOf}
+use Rattle.rules.specs.declared.rules.Seen.{Seen}
 use Rattle.plan.specs.Plans.{askedOf, tagAsked, unitAsked, clearsSet, refusing, planOf, pathsAfter, unitsAfter}
 use Rattle.plan.specs.declared.What.{What}
 use Rattle.plan.specs.declared.Asked.{Asked}
 use Rattle.plan.specs.declared.Asked.the-variants.{By, Unread}
-use Rattle.plan.specs.declared.Deed.the-variants as deed
+use Rattle.plan.specs.declared.Deed.{Deed}
 use Rattle.plan.specs.declared.Plan.{Plan}
 use Rattle.plan.specs.declared.Answer.{Answer}
 use Rattle.plan.specs.declared.Answer.the-variants as answer
-use Rattle.engine.specs.Calls.{out, refused, heardOf, planAt, planFor, acted, carriedOut, replyPath, answeredTo, messageOf, choiceOn, sentSense, runningTask, setupOf, replied, Answers}
+use Rattle.engine.specs.Calls.{out, refused, heardOf, senderOf, listedPlan, planAt, planFor, acted, carriedOut, replyPath, carried, answeredTo, messageOf, verdict, settled, mayGo, choiceOn, goes, startVerdict, startOf, sentSense, runningTask, failed, finishVerdict, finishOf, totalResetOf, setupOf, replied, Answers}
 use Rattle.engine.specs.declared.Outcome.{Outcome}
+use Rattle.engine.specs.declared.calls.Verdict.{Verdict}
 
 -- ---- one test after another
 
@@ -59,45 +61,58 @@ not-answered r e h = rw e at h
 pub not-found : {p q : Pick} (r : Bool) → p ≡ q → not (p .found) ≡ r → not (q .found) ≡ r
 not-found r e h = rw e at h
 
-pub ruleset gates = (stops, goes-on, not-answered, not-found, answered-true, answered-false, lt-ltb, le-ltb, eq-eqb, ne-eqb)
+pub is-found : {p q : Pick} (r : Bool) → p ≡ q → p .found ≡ r → q .found ≡ r
+is-found r e h = rw e at h
 
-pub same-table : {t u : Table} (a : Answer) (to : ℕ) → t ≡ u → out t a to ≡ out u a to
-same-table a to e = rw e
+pub ruleset gates = (stops, goes-on, not-answered, not-found, is-found, answered-true, answered-false, lt-ltb, le-ltb, eq-eqb, ne-eqb)
 
 -- ---- a message
 
 pub heard-all : (m : List ℕ) {g : Message} {a : Asked} → g ≡ readOf m → a ≡ askedOf g → a ≡ askedOf (readOf m)
 heard-all m e h = h ∙ rw e
 
-module _ (t : Table) (m : List ℕ) (path tag : ℕ) (w : What) {p : ℕ} {pl : Plan} (e : p ≡ pathOf t path) where
-  pub unlisted : 8 ≤ p → pl ≡ refusing Paper.unknownPath → pl ≡ planFor t m path tag w
-  unfolding planFor
-  unlisted h k = rw (← e, le-ltb p 8 h) k
+-- the plan for what the path at p asks
+module _ (s : Seen) (next p tag : ℕ) (m : List ℕ) (w : What) {pl : Plan} where
+  pub unlisted : 8 ≤ p → pl ≡ refusing Paper.unknownPath → pl ≡ listedPlan s next p tag m w
+  unfolding listedPlan
+  unlisted h k = rw (le-ltb p 8 h) k
 
-  pub listed : {n u : ℕ} {b : Bool} {f : Facts} → p < 8 → n ≡ tagAsked tag w → u ≡ unitAsked w → b ≡ clearsSet w → f ≡ factsOf t p n u b → pl ≡ planOf f (t .next) p tag m w
-      → pl ≡ planFor t m path tag w
-  unfolding planFor planAt
-  listed h i j k f d = d ∙ rw (f, i, j, k) (rw (← e, lt-ltb p 8 h))
+  pub listed : p < 8 → pl ≡ planOf s next p tag m w → pl ≡ listedPlan s next p tag m w
+  unfolding listedPlan
+  listed h k = rw (lt-ltb p 8 h) k
 
 pub ruleset plan-ways = (unlisted, listed)
 
+-- the plan for what was heard
+unfoldable pub planHeard : Table → List ℕ → Asked → Plan
+planHeard t m (Unread n) = refusing n
+planHeard t m (By path tag w) = planFor t m path tag w
+
+module _ (t : Table) (m : List ℕ) {a : Asked} {pl : Plan} where
+  pub unread : {n : Refusal} → a ≡ Unread n → pl ≡ refusing n → pl ≡ planHeard t m a
+  unfolding planHeard
+  unread e h = rw e h
+
+  pub read-by : {path tag p n u : ℕ} {b : Bool} {w : What} {s : Seen} → a ≡ By path tag w → p ≡ pathOf t path → n ≡ tagAsked tag w → u ≡ unitAsked w → b ≡ clearsSet w
+      → s ≡ seenOf t p n u b → pl ≡ listedPlan s (t .next) p tag m w → pl ≡ planHeard t m a
+  unfolding planHeard planFor planAt listedPlan
+  read-by e p n u b s h = h ∙ rw (e, s, n, u, b, p)
+
+-- the plan carried out: paths and units, then the records
 module _ (t : Table) (pl : Plan) {paths : List path.Path} {units : List unit.Unit} (e : paths ≡ pathsAfter (t .paths) (t .count) (pl .change)) (h : units ≡ unitsAfter (t .units) (pl .change)) where
   abbrev changed : Table
   changed = record { live = t .live; next = t .next; count = t .count; attached = t .attached; paths = paths; units = units; tasks = t .tasks }
 
-  pub carry-none : pl .deed ≡ deed.Nothing → changed ≡ carriedOut t pl
-  unfolding carriedOut acted
-  carry-none k = rw (k, e, h)
+  pub carries-out : {d : Deed} {u : Table} → pl .deed ≡ d → u ≡ acted changed d → u ≡ carriedOut t pl
+  unfolding carriedOut
+  carries-out k a = a ∙ rw (k, e, h)
 
-  pub carry-accept : {p tag lun : ℕ} {kind : Kind} {u : Table} → pl .deed ≡ deed.Accept p tag lun kind → u ≡ accepted changed p tag lun kind → u ≡ carriedOut t pl
-  unfolding carriedOut acted
-  carry-accept k d = d ∙ rw (k, e, h)
+carried-heard : (t : Table) (m : List ℕ) (a : Asked) → carried t (senderOf a) (planHeard t m a) ≡ answeredTo t m a
+unfolding planHeard answeredTo carriedOut acted
+carried-heard t m (Unread n) = refl
+carried-heard t m (By path tag w) = refl
 
-  pub carry-end : {s : Selection} {u : Table} → pl .deed ≡ deed.End s → u ≡ endedBy changed s → u ≡ carriedOut t pl
-  unfolding carriedOut acted
-  carry-end k d = d ∙ rw (k, e, h)
-
-pub ruleset carry-ways = (carry-none, carry-accept, carry-end)
+-- ---- the reply
 
 module _ {a : Answer} (buf : List ℕ) {tag : ℕ} {left : List ℕ} where
   pub responds : {code : ReturnCode} → a ≡ answer.Response tag code → left ≡ leftOf (reply.Response tag code) buf → left ≡ replied a buf
@@ -108,43 +123,45 @@ module _ {a : Answer} (buf : List ℕ) {tag : ℕ} {left : List ℕ} where
   unfolding replied
   reports e h = rw e h
 
-pub ruleset reply-ways = (responds, reports)
+  pub faults : a ≡ answer.Invalid tag → left ≡ leftOf (reply.Invalid tag) buf → left ≡ replied a buf
+  unfolding replied
+  faults e h = rw e h
 
+pub ruleset reply-ways = (responds, reports, faults)
+
+-- the contract of a call with a reply buffer
 pub answers : {d o : Outcome} {buf left : List ℕ} → o ≡ d → left ≡ replied (o .answer) buf → Answers d buf o left
 answers e h = record { outcome = e; buffer = h ∙ rw e }
 
-pub no-reply : (t : Table) (buf : List ℕ) {n : Refusal} {o : Outcome} → o ≡ refused t n → buf ≡ replied (o .answer) buf
-unfolding replied
-no-reply t buf e = rw e
-
-module _ (t : Table) (m : List ℕ) (room : ℕ) {b : Bool} {a : Asked} (s : b ≡ soundOf t) (h : a ≡ heardOf b room m) where
-  pub unheard : {n : Refusal} {o : Outcome} → a ≡ Unread n → o ≡ refused t n → o ≡ messageOf t m room
-  unfolding messageOf answeredTo
-  unheard e k = rw (← s, ← h, e) k
-
-  pub carries : {path tag to : ℕ} {w : What} {pl : Plan} {u : Table} → a ≡ By path tag w → pl ≡ planFor t m path tag w → u ≡ carriedOut t pl → to ≡ replyPath (pl .answer) path
-      → out u (pl .answer) to ≡ messageOf t m room
-  unfolding messageOf answeredTo
-  carries e p c d = rw (c, d, p, ← s, ← h, e)
-
-pub ruleset answer-ways = (answers, no-reply, unheard, carries)
+pub carries : (t : Table) (m : List ℕ) (room : ℕ) {b : Bool} {a : Asked} {pl : Plan} {u : Table} {from to : ℕ} → b ≡ soundOf t → a ≡ heardOf b room m → pl ≡ planHeard t m a
+    → u ≡ carriedOut t pl → from ≡ senderOf a → to ≡ replyPath (pl .answer) from → out u (pl .answer) to ≡ messageOf t m room
+unfolding messageOf
+carries t m room s h p c f d = rw (c, d, f, p, h, s) (carried-heard t m (heardOf (soundOf t) room m))
 
 -- ---- start
 
-module _ (t : Table) (lun : ℕ) {u : unit.Unit} {b : Bool} {p : Pick} (e : u ≡ unitAt t lun) (h : b ≡ hasAca (u .aca)) where
-  pub choose-aca : b ≡ true → p ≡ pickOf t (acaWaitingOn lun) → p ≡ choiceOn t lun
-  unfolding choiceOn
-  choose-aca k d = rw (← e, ← h, k) d
+module _ (aca : Aca) (lun : ℕ) {b : Bool} (e : b ≡ hasAca aca) where
+  pub go-aca : b ≡ true → acaWaitingOn lun ≡ mayGo aca lun
+  go-aca h = rw (← e, h)
 
-  pub choose-any : b ≡ false → p ≡ pickOf t (waitingOn lun) → p ≡ choiceOn t lun
-  unfolding choiceOn
-  choose-any k d = rw (← e, ← h, k) d
+  pub go-any : b ≡ false → waitingOn lun ≡ mayGo aca lun
+  go-any h = rw (← e, h)
 
-pub ruleset choose-ways = (choose-aca, choose-any)
+pub ruleset go-ways = (go-aca, go-any)
 
-pub starts : (t : Table) (unit : ℕ) {p : Pick} {u : Table} → p ≡ choiceOn t unit → u ≡ started t (p .at)
-    → out u (answer.Started (p .arrival)) 0 ≡ out (started t (choiceOn t unit .at)) (answer.Started (choiceOn t unit .arrival)) 0
-starts t unit e h = rw (h, e)
+pub picks : (t : Table) (q : Selection) {s : Selection} {p : Pick} → s ≡ q → p ≡ pickOf t s → p ≡ pickOf t q
+picks t q e h = rw e at h
+
+pub chosen : (t : Table) (lun : ℕ) {u : unit.Unit} {s : Selection} {p : Pick} → u ≡ unitAt t lun → s ≡ mayGo (u .aca) lun → p ≡ pickOf t s → p ≡ choiceOn t lun
+unfolding choiceOn
+chosen t lun e h k = k ∙ rw (h, e)
+
+pub goes-next : {p q : Pick} → p ≡ q → verdict (answer.Started (p .task .offset) (p .task .arrival)) (p .at) 0 ≡ goes q
+goes-next e = rw e
+
+pub starts : (t : Table) (lun : ℕ) {v : Verdict} {u : Table} → v ≡ startVerdict t lun → u ≡ started t (v .place) → settled v u ≡ startOf t lun
+unfolding startOf
+starts t lun e h = rw (h, e)
 
 -- ---- finish
 
@@ -162,18 +179,33 @@ next-status y h e = rw (ne-eqb _ _ h) e
 
 pub ruleset may-ways = (bad-key, good-key, this-status, next-status)
 
-pub finishes : (t : Table) (arrival : ℕ) (x : StatusByte) (s : Sense) {p : Pick} {a : Task} {from : path.Path} {u : Table} {k : Sense}
-    → p ≡ pickOf t (runningAs arrival) → a ≡ taskAt t (p .at) → from ≡ pathAt t (a .path) → u ≡ finished t a (eqb (x .0) (Paper.checkCondition .0)) → k ≡ sentSense x s
-    → out u (answer.Status (a .tag) x k) (from .id)
-    ≡ out (finished t (runningTask t arrival) (eqb (x .0) (Paper.checkCondition .0))) (answer.Status (runningTask t arrival .tag) x (sentSense x s)) (pathAt t (runningTask t arrival .path) .id)
-finishes t arrival x s e a f u k = rw (u, k, f, a, e)
+pub judged : (t : Table) (arrival : ℕ) (x : StatusByte) (s : Sense) {p : Pick} {from : path.Path} {k : Sense} → p ≡ pickOf t (runningAs arrival) → from ≡ pathAt t (p .task .path) → k ≡ sentSense x s
+    → verdict (answer.Status (p .task .tag) x k) (p .at) (from .id)
+    ≡ verdict (answer.Status (runningTask t arrival .tag) x (sentSense x s)) (pickOf t (runningAs arrival) .at) (pathAt t (runningTask t arrival .path) .id)
+judged t arrival x s e f k = rw (k, f, e)
 
--- ---- setup
+pub finishes : (t : Table) (arrival : ℕ) (x : StatusByte) (s : Sense) (transferred n : ℕ) {v : Verdict} {u : Table} → v ≡ finishVerdict t arrival x s n
+    → u ≡ finished t (v .place) (failed x) transferred → settled v u ≡ finishOf t arrival x s transferred n
+unfolding finishOf
+finishes t arrival x s transferred n e h = rw (h, e)
+
+-- ---- total reset and setup
+
+module _ (t : Table) {b : Bool} (e : b ≡ soundOf t) where
+  pub reset-refused : b ≡ false → refused t Paper.notSound ≡ totalResetOf t
+  unfolding totalResetOf
+  reset-refused h = rw (← e, h)
+
+  pub resets : {u : Table} → b ≡ true → u ≡ resetOf t → out u answer.Reset 0 ≡ totalResetOf t
+  unfolding totalResetOf
+  resets h k = rw (k, ← e, h)
+
+pub ruleset reset-ways = (reset-refused, resets)
 
 module _ (ids : List ℕ) (attached first : ℕ) {u : Table} {b : Bool} (e : u ≡ setupTable ids attached first) (h : b ≡ badList ids) where
-  pub setup-refused : {o : Outcome} → b ≡ true → o ≡ refused u Paper.badPaths → o ≡ setupOf ids attached first
+  pub setup-refused : b ≡ true → refused u Paper.badPaths ≡ setupOf ids attached first
   unfolding setupOf
-  setup-refused k d = d ∙ rw (e, ← h, k)
+  setup-refused k = rw (e, ← h, k)
 
   pub setup-ready : b ≡ false → out u answer.Ready 0 ≡ setupOf ids attached first
   unfolding setupOf

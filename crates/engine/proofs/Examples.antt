@@ -1,6 +1,6 @@
--- Page 01's examples, its worked calls and what each order ends, computed. Assumes nothing.
+-- Page 01's examples, its worked calls, confirmed status and what each order ends, computed. Assumes nothing.
 use mathlib.Core.Path.{refl}
-use Rattle.wire.specs.Messages.{placeOf, fieldsOf, readOf, commandReserved, reservedSet}
+use Rattle.wire.specs.Messages.{placeOf, fieldsOf, readOf, commandReserved, confirmReserved, reservedSet}
 use Rattle.wire.specs.Block.{cutShort, noBlock, linked}
 use Rattle.reply.specs.Replies.{writableOf, bytesOf}
 use Rattle.reply.specs.Calls.{leftOf}
@@ -8,31 +8,31 @@ use Rattle.task.specs.Index.{first, some, all, mapOf, mapAt}
 use Rattle.task.specs.Map.{lowestFree, withBit}
 use Rattle.task.specs.Selections.{picks}
 use Rattle.task.specs.Scan.{considered, scanFrom}
-use Rattle.table.specs.Tables.{zeroTable, placeOf as pathPlace, anyLive, pickOf, hasRoom, accepted, endedBy, started, markedIn, attendedIn, alarmedIn, losersOf, acaClearedIn, finished}
+use Rattle.table.specs.Tables.{zeroTable, placeOf as pathPlace, anyLive, pickOf, hasRoom, accepted, endedBy, alteredAt, markedIn, attendedIn, alarmedIn, losersOf, acaClearedIn, finished}
 use Rattle.table.specs.Setup.{badList, freshPaths, pathsOf, freshTable, setupTable}
 use Rattle.table.specs.Sound.{countOk, pathsDistinct, unusedZero, recordsOk, unitsOk, clashes, soundOf}
 use Rattle.rules.specs.First.{firstThat}
-use Rattle.rules.specs.Rules.{factsOf, resumesUnmarked, missesResume, barred, stray, passesAttention, resetPending, clearedPending, roomRules, fieldRules, unitRules, blockRules, commandRules}
+use Rattle.rules.specs.Rules.{factsOf, seenOf, resumesUnmarked, missesResume, contradicts, barred, stray, passesAttention, resetPending, clearedPending, roomRules, fieldRules, unitRules, blockRules, commandRules}
 use Rattle.rules.specs.Management.{orderCode}
-use Rattle.plan.specs.Plans.{orderPlan}
-use Rattle.engine.specs.Calls.{heardOf, planAt, planFor, acted, carriedOut, answeredTo, messageOf, choiceOn, startOf, finishOf, setupOf, replied}
-use Rattle.engine.specs.Examples.{quiet, tasksFrom, full, examples, shared, orders, ExamplesHold, WorkedCalls, OrdersEnd}
+use Rattle.plan.specs.Plans.{orderPlan, confirmPlan}
+use Rattle.engine.specs.Calls.{heardOf, planAt, planFor, acted, carriedOut, answeredTo, messageOf, choiceOn, startVerdict, startOf, finishVerdict, finishOf, setupOf, replied}
+use Rattle.engine.specs.Examples.{quiet, tasksFrom, full, examples, waits, underway, unconfirmed, again8, confirmations, shared, orders, ExamplesHold, WorkedCalls, ConfirmationsHold, ConfirmedCalls, OrdersEnd}
 
 -- the definitions that these are computed by: of messages and replies, of tasks and tables, of rules, orders and plans, of the calls and the examples
 unfoldable bytes : Unit {0}
-unfolding placeOf fieldsOf readOf commandReserved reservedSet cutShort noBlock linked writableOf bytesOf leftOf
+unfolding placeOf fieldsOf readOf commandReserved confirmReserved reservedSet cutShort noBlock linked writableOf bytesOf leftOf
 bytes = tt
 
 unfoldable tables : Unit {0}
-unfolding first some all mapOf mapAt lowestFree withBit picks considered scanFrom zeroTable pathPlace anyLive pickOf hasRoom accepted endedBy started markedIn attendedIn alarmedIn losersOf acaClearedIn finished badList freshPaths pathsOf freshTable setupTable countOk pathsDistinct unusedZero recordsOk unitsOk clashes soundOf
+unfolding first some all mapOf mapAt lowestFree withBit picks considered scanFrom zeroTable pathPlace anyLive pickOf hasRoom accepted endedBy alteredAt markedIn attendedIn alarmedIn losersOf acaClearedIn finished badList freshPaths pathsOf freshTable setupTable countOk pathsDistinct unusedZero recordsOk unitsOk clashes soundOf
 tables = tt
 
 unfoldable answers : Unit {0}
-unfolding firstThat factsOf resumesUnmarked missesResume barred stray passesAttention resetPending clearedPending roomRules fieldRules unitRules blockRules commandRules orderCode orderPlan
+unfolding firstThat factsOf seenOf resumesUnmarked missesResume contradicts barred stray passesAttention resetPending clearedPending roomRules fieldRules unitRules blockRules commandRules orderCode orderPlan confirmPlan
 answers = tt
 
 unfoldable calls : Unit {0}
-unfolding heardOf planAt planFor acted carriedOut answeredTo messageOf choiceOn startOf finishOf setupOf replied quiet tasksFrom full examples shared orders
+unfolding heardOf planAt planFor acted carriedOut answeredTo messageOf choiceOn startVerdict startOf finishVerdict finishOf setupOf replied quiet tasksFrom full examples waits underway unconfirmed again8 confirmations shared orders
 calls = tt
 
 unfoldable computing : Unit {0}
@@ -46,6 +46,14 @@ examples-hold = refl
 pub worked-calls : WorkedCalls
 unfolding computing
 worked-calls = refl
+
+pub confirmations-hold : ConfirmationsHold
+unfolding computing
+confirmations-hold = refl
+
+pub confirmed-calls : ConfirmedCalls
+unfolding computing
+confirmed-calls = refl
 
 pub orders-end : OrdersEnd
 unfolding computing

@@ -12,40 +12,40 @@ use Rattle.wire.specs.Block.{cutShort, noBlock}
 use Rattle.wire.specs.declared.codes.Queue.{Queue}
 use Rattle.wire.specs.declared.message.Flags.{Flags}
 use Rattle.task.specs.Tasks.{isAca}
-use Rattle.task.specs.Selections.{picks, everyTask, onUnit, acaOn, acaFromOn, runningAs, waitingOn, acaWaitingOn}
+use Rattle.task.specs.Selections.{picks, everyTask, named, onUnit, acaOn, acaFromOn, runningOn, waitingOn, acaWaitingOn}
 use Rattle.task.specs.declared.Kind.the-variants as kind
 use Rattle.task.specs.declared.Task.{Task}
 use Rattle.task.specs.declared.select.Place.the-variants.{Anywhere, On}
 use Rattle.task.proofs.Ways.{never, cond-ind, both}
 use Rattle.task.proofs.Places.{first-picks}
 use Rattle.task.proofs.Selecting.{meets, picks-every, picks-on, picks-aca-on, picks-aca-from-on}
-use Rattle.table.specs.Tables.{placeOf, pathOf, unitAt, anyLive, hasRoom, withPaths, endedBy, markedIn, alarmedIn}
-use Rattle.table.specs.Sound.{ownedBy}
+use Rattle.table.specs.Tables.{placeOf, pathOf, unitAt, taskAt, anyLive, pickOf, hasRoom, withPaths, endedBy, markedIn, alarmedIn}
+use Rattle.table.specs.Sound.{Shaped, ownedBy}
 use Rattle.table.specs.Promises.{Good, MayCome}
 use Rattle.table.specs.declared.Aca.{Aca}
 use Rattle.table.specs.declared.Aca.the-variants.{Clear, Owned}
 use Rattle.table.specs.declared.Table.{Table}
-use Rattle.table.proofs.Views.{pick-at, none-left}
-use Rattle.table.proofs.Keeps.{accept-keeps, end-keeps, start-keeps as start-task-keeps, clear-keeps, mark-keeps, attend-keeps, alarm-keeps, warn-keeps, finish-keeps as finish-task-keeps, reset-keeps as reset-table-keeps, setup-is-good as setup-table-is-good}
-use Rattle.rules.specs.Rules.{hasAca, factsOf, asksAca, barred, stray, roomRules, fieldRules, unitRules, blockRules, commandRules, accepts, deciding}
+use Rattle.table.proofs.Views.{live-at, pick-at, any-is-found, none-left}
+use Rattle.table.proofs.Keeps.{accept-keeps, may-come as paths-may-come, end-keeps, start-keeps as start-task-keeps, restart-keeps, clear-keeps, mark-keeps, attend-keeps, alarm-keeps, warn-keeps, finish-keeps as finish-task-keeps, reset-keeps as reset-table-keeps, setup-is-good as setup-table-is-good}
+use Rattle.rules.specs.Rules.{hasAca, factsOf, seenOf, asksAca, barred, stray, roomRules, fieldRules, unitRules, blockRules, commandRules, accepts, deciding}
 use Rattle.rules.specs.Management.{endsOf, tagOf, unitOf, isClearSet, orderCode}
 use Rattle.rules.specs.declared.rules.Facts.{Facts}
 use Rattle.rules.specs.declared.rules.Mood.{Mood}
 use Rattle.rules.specs.declared.rules.Mood.the-variants.{Stay, Mark, Unmark, Attend}
 use Rattle.rules.specs.declared.rules.Ruling.{Ruling}
-use Rattle.rules.specs.declared.rules.Ruling.the-variants.{Refuse, Respond, Report, Accept}
+use Rattle.rules.specs.declared.rules.Ruling.the-variants.{Refuse, Respond, Report, Invalid, Accept}
 use Rattle.rules.specs.declared.manage.Order.{Order}
 use Rattle.rules.specs.declared.manage.Order.the-variants.{AbortTask, AbortTaskSet, ClearTaskSet, ClearAca, UnitReset, TargetReset}
 use Rattle.rules.proofs.Entries.{everyGives, appliesAt, passed}
 use Rattle.plan.specs.Plans.{kindOf, ruled, orderPlan, inMood}
 use Rattle.plan.specs.declared.What.{What}
-use Rattle.plan.specs.declared.What.the-variants.{Command, Manage}
+use Rattle.plan.specs.declared.What.the-variants.{Command, Manage, Confirm}
 use Rattle.plan.specs.declared.Change.the-variants as change
 use Rattle.plan.specs.declared.Plan.{Plan}
 use Rattle.engine.specs.Calls.{withParts, planAt, acted, carriedOut, choiceOn, setupOf}
 use Rattle.engine.specs.Promises.{MessageKeeps, StartKeeps, FinishKeeps, ResetKeeps, SetupIsGood}
 use Rattle.engine.specs.declared.Outcome.{Outcome}
-use Rattle.engine.proofs.Outcomes.{each-message, each-start, each-finish, each-reset}
+use Rattle.engine.proofs.Outcomes.{each-message, each-start, each-finish, each-reset, each-confirm}
 
 -- a place that is not 8 is a listed path's
 listed-place : (t : Table) (id : ℕ) → pathOf t id < 8 → pathOf t id < t .count
@@ -97,17 +97,17 @@ module _ (t : Table) (p tag lun : ℕ) (flags : Flags) (m : List ℕ) where
     unfolding commandRules roomRules fieldRules unitRules blockRules
     accept-is-whole = (none-applied 3, none-applied 12)
 
-    may-come : p < t .count → MayCome t p tag lun (kindOf (flags .queue))
+    may-come : Shaped t → p < t .count → MayCome t p tag lun (kindOf (flags .queue))
     unfolding commandRules roomRules fieldRules unitRules blockRules factsOf
-    may-come l =
-        let by-owner : isAca (kindOf (flags .queue)) ≡ true → (ownedBy (unitAt t lun .aca) p ≡ true) × (anyLive t (acaOn lun) ≡ false) =
+    may-come h l =
+        let by-owner : isAca (kindOf (flags .queue)) ≡ true → (ownedBy (unitAt t lun .aca) p ≡ true) × (pickOf t (acaOn lun) .found ≡ false) =
         λ a. owner-alone facts flags (aca-asked (flags .queue) a) (none-applied 8) (none-applied 9) in
         record {
           listed = l;
           attached = not-false _ (none-applied 7);
-          free = none-applied 6;
+          free = sym (any-is-found t (named p tag) h) ∙ none-applied 6;
           owner = λ a. owned-by (unitAt t lun .aca) p (by-owner a .0);
-          alone = λ a. by-owner a .1;
+          alone = λ a. sym (any-is-found t (acaOn lun) h) ∙ by-owner a .1;
         }
 
 -- ---- what an order leaves
@@ -156,14 +156,13 @@ module _ (t : Table) (g : Good t) (p : ℕ) (l : p < t .count) where
 
   ruling-keeps : (next tag lun : ℕ) (flags : Flags) (r : Ruling) → (r ≡ Accept → MayCome t p tag lun (kindOf (flags .queue)))
       → Good (carriedOut t (ruled next p tag lun flags r))
-  unfolding carriedOut acted anyLive
+  unfolding carriedOut acted
   ruling-keeps next tag lun flags (Refuse n) c = g
   ruling-keeps next tag lun flags (Respond code mood) c = mood-keeps mood
   ruling-keeps next tag lun flags (Report status sense mood) c = mood-keeps mood
+  ruling-keeps next tag lun flags (Invalid mood) c = mood-keeps mood
   ruling-keeps next tag lun flags Accept c =
-      let h = c refl in
-      accept-keeps (withPaths t (inMood (t .paths) p Unmark)) p tag lun _ (mood-keeps Unmark)
-      (record { listed = h .listed; attached = h .attached; free = h .free; owner = h .owner; alone = h .alone })
+      let l = inMood (t .paths) p Unmark in accept-keeps (withPaths t l) p tag lun _ (flags .confirm) (mood-keeps Unmark) (paths-may-come l (c refl))
 
   -- what an order asks of the table
   abbrev asked : Order → Facts
@@ -190,10 +189,13 @@ module _ (t : Table) (g : Good t) (p : ℕ) (l : p < t .count) where
       clear-keeps (endedBy alarmed everyTask) Anywhere (end-keeps alarmed _ alarmed-good) (none-anywhere alarmed alarmed-good)
 
   plan-keeps : (m : List ℕ) (tag : ℕ) (w : What) → Good (carriedOut t (planAt t m p tag w))
-  unfolding carriedOut acted planAt orderPlan
-  plan-keeps m tag (Command lun flags) = ruling-keeps (t .next) tag lun flags _ (λ e. may-come t p tag lun flags m e l)
+  unfolding carriedOut acted planAt seenOf orderPlan
+  plan-keeps m tag (Command lun flags) = ruling-keeps (t .next) tag lun flags _ (λ e. may-come t p tag lun flags m e (g .shaped) l)
   plan-keeps m tag (Manage o) =
       cond-ind (λ (pl : Plan). Good (carriedOut t pl)) (eqb (orderCode (asked o) m o .0) (Paper.done .0)) (λ e. done-keeps m o (eqb-true _ _ e)) (λ _. g)
+  plan-keeps m tag (Confirm offset complete) =
+      each-confirm (λ (pl : Plan). Good (carriedOut t pl)) (pickOf t (named p tag)) p tag m offset complete g g (λ _. end-keeps t _ g)
+      (λ _ _. restart-keeps t _ offset g)
 
 abbrev GoodAfter : Outcome → Type 0
 GoodAfter o = Good (o .table)
@@ -212,12 +214,14 @@ unfolding choiceOn
 start-keeps t unit g =
     each-start GoodAfter t (λ _. g) unit
     (λ _ idle found.
-    start-task-keeps t (choiceOn t unit .at) g (rw (on-unit _ (hasAca (unitAt t unit .aca)) unit (pick-at t _ (g .shaped) found .picked)) idle))
+    let f = pick-at t _ (g .shaped) found in
+    let here : taskAt t (choiceOn t unit .at) .unit ≡ unit =
+    ap (λ (a : Task). a .unit) (live-at t _ (f .here) .1) ∙ on-unit _ (hasAca (unitAt t unit .aca)) unit (f .picked) in
+    start-task-keeps t (choiceOn t unit .at) g (rw here (sym (any-is-found t (runningOn unit) (g .shaped)) ∙ idle)))
 
 pub finish-keeps : FinishKeeps
-finish-keeps t arrival status s n g =
-    each-finish GoodAfter t (λ _. g) arrival status s n
-    (λ found. let f = pick-at t (runningAs arrival) (g .shaped) found in finish-task-keeps t _ _ _ g (f .below) (f .here))
+finish-keeps t arrival status s transferred n g =
+    each-finish GoodAfter t (λ _. g) arrival status s transferred n (λ _. finish-task-keeps t _ _ transferred g)
 
 pub reset-keeps : ResetKeeps
 reset-keeps t g = each-reset GoodAfter t (λ _. g) (reset-table-keeps t g)

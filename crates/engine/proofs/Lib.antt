@@ -5,6 +5,7 @@ pub mod Unique
 pub mod Promises
 pub mod Replies
 pub mod Keeps
+pub mod Confirming
 pub mod Abort
 pub mod Outcomes
 mod Calling

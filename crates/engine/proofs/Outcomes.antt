@@ -1,28 +1,34 @@
 -- What holds at each way out of a call's definition holds of its outcome. Assumes nothing.
 use Prim.Native.Nat.{ℕ, _<_, _≤_}
-use mathlib.Core.Path.{_≡_, refl}
-use mathlib.Core.Bool.{true, false, not}
+use mathlib.Core.Path.{_≡_, refl, sym, ap, _∙_}
+use mathlib.Core.Bool.{Bool, true, false, not}
 use mathlib.Core.List.{List}
-use lib.Dec.{eqb, ltb}
+use lib.Dec.{ltb}
 use borrow.Author.Tests.{not-false, ltb-true, ltb-false}
 use Rattle.wire.specs.Paper
-use Rattle.wire.specs.Messages.{readOf}
+use Rattle.wire.specs.Messages.{readOf, reservedSet}
 use Rattle.wire.specs.declared.codes.Refusal.{Refusal}
 use Rattle.wire.specs.declared.codes.StatusByte.{StatusByte}
 use Rattle.wire.specs.declared.codes.Sense.{Sense}
-use Rattle.task.specs.Selections.{runningOn, runningAs}
+use Rattle.task.specs.Selections.{runningOn, runningAs, numberedAs}
+use Rattle.task.specs.declared.scan.Pick.{Pick}
 use Rattle.task.proofs.Ways.{cond-ind}
-use Rattle.table.specs.Tables.{pathOf, pathAt, isAttached, anyLive, pickOf, started, finished, resetOf}
+use Rattle.table.specs.Tables.{pathOf, pathAt, isAttached, pickOf, started, finished, resetOf}
 use Rattle.table.specs.Sound.{soundOf}
 use Rattle.table.specs.declared.Table.{Table}
-use Rattle.plan.specs.Plans.{askedOf}
+use Rattle.table.proofs.Views.{altered-none, finished-none}
+use Rattle.plan.specs.Plans.{askedOf, planned, refusing, isAwaited, confirmPlan}
 use Rattle.plan.specs.declared.What.{What}
 use Rattle.plan.specs.declared.Asked.{Asked}
 use Rattle.plan.specs.declared.Asked.the-variants.{By, Unread}
+use Rattle.plan.specs.declared.Change.the-variants as change
+use Rattle.plan.specs.declared.Deed.the-variants as deed
 use Rattle.plan.specs.declared.Plan.{Plan}
+use Rattle.plan.specs.declared.Answer.{Answer}
 use Rattle.plan.specs.declared.Answer.the-variants as answer
-use Rattle.engine.specs.Calls.{out, refused, heardOf, planAt, planFor, acted, carriedOut, carried, answeredTo, messageOf, choiceOn, startOf, mayFinish, sentSense, runningTask, finishOf, totalResetOf}
+use Rattle.engine.specs.Calls.{out, refused, heardOf, planAt, planFor, acted, carriedOut, carried, answeredTo, messageOf, rejected, settled, choiceOn, startVerdict, startOf, mayFinish, sentSense, runningTask, failed, finishVerdict, finishOf, totalResetOf, replied, Answers}
 use Rattle.engine.specs.declared.Outcome.{Outcome}
+use Rattle.engine.specs.declared.calls.Verdict.{Verdict}
 
 module _ (P : Outcome → Type 0) (t : Table) (stops : (n : Refusal) → P (refused t n)) where
   -- a message: refused, or the plan for what a listed path asks is carried out
@@ -49,34 +55,59 @@ module _ (P : Outcome → Type 0) (t : Table) (stops : (n : Refusal) → P (refu
     pub each-message : Carried → (n : ℕ) → P (messageOf t m n)
     each-message goes n = each-heard n (λ _. goes)
 
+  -- a start: refused, or the task that goes next runs
   pub each-start : (unit : ℕ)
-      → (isAttached t unit ≡ true → anyLive t (runningOn unit) ≡ false → choiceOn t unit .found ≡ true
-      → P (out (started t (choiceOn t unit .at)) (answer.Started (choiceOn t unit .arrival)) 0))
+      → (isAttached t unit ≡ true → pickOf t (runningOn unit) .found ≡ false → choiceOn t unit .found ≡ true
+      → P (out (started t (choiceOn t unit .at)) (answer.Started (choiceOn t unit .task .offset) (choiceOn t unit .task .arrival)) 0))
       → P (startOf t unit)
-  unfolding startOf
+  unfolding startOf startVerdict
   each-start unit goes =
-      cond-ind P (not (soundOf t)) (λ _. stops _)
-      (λ _. cond-ind P (not (isAttached t unit)) (λ _. stops _)
-      (λ a. cond-ind P (anyLive t (runningOn unit)) (λ _. stops _)
-      (λ r. cond-ind P (not (choiceOn t unit .found)) (λ _. stops _) (λ f. goes (not-false _ a) r (not-false _ f)))))
+      let Q : Verdict → Type 0 = λ v. P (settled v (started t (v .place))) in
+      let no : (n : Refusal) → Q (rejected n) = λ n. rw (altered-none t _) (stops n) in
+      cond-ind Q (not (soundOf t)) (λ _. no _)
+      (λ _. cond-ind Q (not (isAttached t unit)) (λ _. no _)
+      (λ a. cond-ind Q (pickOf t (runningOn unit) .found) (λ _. no _)
+      (λ r. cond-ind Q (not (choiceOn t unit .found)) (λ _. no _) (λ f. goes (not-false _ a) r (not-false _ f)))))
 
-  module _ (arrival : ℕ) (status : StatusByte) (s : Sense) (n : ℕ) where
+  -- a finish: refused, or the running task of the arrival number is finished
+  module _ (arrival : ℕ) (status : StatusByte) (s : Sense) (transferred n : ℕ) where
     abbrev pub Ended : Type 0
-    Ended = P (out (finished t (runningTask t arrival) (eqb (status .0) (Paper.checkCondition .0)))
+    Ended = P (out (finished t (pickOf t (runningAs arrival) .at) (failed status) transferred)
         (answer.Status (runningTask t arrival .tag) status (sentSense status s)) (pathAt t (runningTask t arrival .path) .id))
 
     -- where the reply buffer has room, and the device's status and sense key may be sent
-    pub each-sent : (Paper.replyRoom ≤ n → mayFinish status s ≡ true → pickOf t (runningAs arrival) .found ≡ true → Ended) → P (finishOf t arrival status s n)
-    unfolding finishOf
+    pub each-sent : (Paper.replyRoom ≤ n → mayFinish status s ≡ true → pickOf t (runningAs arrival) .found ≡ true → Ended)
+        → P (finishOf t arrival status s transferred n)
+    unfolding finishOf finishVerdict
     each-sent goes =
-        cond-ind P (not (soundOf t)) (λ _. stops _)
-        (λ _. cond-ind P (ltb n Paper.replyRoom) (λ _. stops _)
-        (λ l. cond-ind P (not (mayFinish status s)) (λ _. stops _)
-        (λ m. cond-ind P (not (pickOf t (runningAs arrival) .found)) (λ _. stops _) (λ f. goes (ltb-false n _ l) (not-false _ m) (not-false _ f)))))
+        let Q : Verdict → Type 0 = λ v. P (settled v (finished t (v .place) (failed status) transferred)) in
+        let no : (n : Refusal) → Q (rejected n) = λ n. rw (finished-none t (failed status) transferred) (stops n) in
+        cond-ind Q (not (soundOf t)) (λ _. no _)
+        (λ _. cond-ind Q (ltb n Paper.replyRoom) (λ _. no _)
+        (λ l. cond-ind Q (not (mayFinish status s)) (λ _. no _)
+        (λ m. cond-ind Q (not (pickOf t (runningAs arrival) .found)) (λ _. no _) (λ f. goes (ltb-false n _ l) (not-false _ m) (not-false _ f)))))
 
-    pub each-finish : (pickOf t (runningAs arrival) .found ≡ true → Ended) → P (finishOf t arrival status s n)
+    pub each-finish : (pickOf t (runningAs arrival) .found ≡ true → Ended) → P (finishOf t arrival status s transferred n)
     each-finish goes = each-sent (λ _ _. goes)
 
   pub each-reset : P (out (resetOf t) answer.Reset 0) → P (totalResetOf t)
   unfolding totalResetOf
   each-reset goes = cond-ind P (not (soundOf t)) (λ _. stops _) (λ _. goes)
+
+-- a confirmation: FFh, or 15, or the task that waits to be confirmed ends, or it waits again at an offset within the bytes transferred
+module _ (P : Plan → Type 0) (own : Pick) (p tag : ℕ) (m : List ℕ) (offset : ℕ) (complete : Bool) where
+  pub each-confirm : P (planned (answer.Response tag Paper.invalidField) change.Nothing deed.Nothing) → P (refusing Paper.nothingToConfirm)
+      → (isAwaited own ≡ true → P (planned (answer.Confirmed (own .task .arrival)) change.Nothing (deed.End (numberedAs (own .task .arrival) p tag))))
+      → (isAwaited own ≡ true → offset ≤ own .task .transferred
+      → P (planned (answer.Restarted (own .task .arrival)) change.Nothing (deed.Restart (own .at) offset)))
+      → P (confirmPlan own p tag m offset complete)
+  unfolding confirmPlan
+  each-confirm bad none ends again =
+      cond-ind P (reservedSet m) (λ _. bad)
+      (λ _. cond-ind P (not (isAwaited own)) (λ _. none)
+      (λ w. cond-ind P complete (λ _. ends (not-false _ w))
+      (λ _. cond-ind P (ltb (own .task .transferred) offset) (λ _. bad) (λ l. again (not-false _ w) (ltb-false _ offset l)))))
+
+-- the reply buffer as it is left, by the answer
+pub left-by : {defined o : Outcome} (buf : List ℕ) {left : List ℕ} {a : Answer} → Answers defined buf o left → o .answer ≡ a → left ≡ replied a buf
+left-by buf x e = x .buffer ∙ ap (λ (a : Answer). replied a buf) (sym (ap (λ (q : Outcome). q .answer) (x .outcome)) ∙ e)

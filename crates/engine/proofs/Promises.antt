@@ -1,4 +1,4 @@
--- A numbered refusal changes nothing; what an accepted command and a start come to. Replies.antt has that replies are written, Keeps.antt that tables stay sound, Abort.antt what ABORT TASK depends on. Assumes nothing.
+-- A numbered refusal changes nothing; what an accepted command and a start come to. Replies.antt has that replies are written, Keeps.antt that tables stay sound, Confirming.antt what becomes of a task that waits to be confirmed, Abort.antt what ABORT TASK depends on. Assumes nothing.
 use Prim.Native.Nat.{ℕ, _+_, _≤_}
 use mathlib.Core.Path.{_≡_, refl, sym, ap, _∙_}
 use mathlib.Core.Bool.{Bool, true, false, cond, _||_}
@@ -6,24 +6,25 @@ use mathlib.Core.List.{List}
 use native.Mathlib.Omega.{arith}
 use lib.ListN.{length, drop, length-drop}
 use lib.Seq.{length-take-le}
-use lib.Dec.{ltb}
-use borrow.Author.Tests.{ltb-false}
+use lib.Dec.{eqb, ltb}
+use borrow.Author.Tests.{ltb-false, eqb-false}
 use Rattle.wire.specs.Paper
 use Rattle.wire.specs.Block.{blockLength, cutShort, noBlock, blockOf}
 use Rattle.wire.specs.declared.codes.Refusal.{Refusal}
 use Rattle.wire.specs.declared.message.Flags.{Flags}
+use Rattle.task.specs.Selections.{named}
 use Rattle.task.proofs.Ways.{never}
 use Rattle.task.proofs.Next.{scan-is-next}
-use Rattle.table.specs.Tables.{zeroTable, pathOf, pickOf}
+use Rattle.table.specs.Tables.{zeroTable, pathOf, unitAt, pickOf}
 use Rattle.table.specs.Setup.{badList, setupTable}
 use Rattle.table.specs.declared.Table.{Table}
-use Rattle.rules.specs.Rules.{deciding}
-use Rattle.rules.specs.declared.rules.Facts.{Facts}
+use Rattle.rules.specs.Rules.{seenOf, deciding}
+use Rattle.rules.specs.declared.rules.Seen.{Seen}
 use Rattle.rules.specs.declared.rules.Ruling.{Ruling}
-use Rattle.rules.specs.declared.rules.Ruling.the-variants.{Refuse, Respond, Report, Accept}
+use Rattle.rules.specs.declared.rules.Ruling.the-variants.{Refuse, Respond, Report, Invalid, Accept}
 use Rattle.plan.specs.Plans.{ruled, planOf}
 use Rattle.plan.specs.declared.What.{What}
-use Rattle.plan.specs.declared.What.the-variants.{Command, Manage}
+use Rattle.plan.specs.declared.What.the-variants.{Command, Manage, Confirm}
 use Rattle.plan.specs.declared.Plan.{Plan}
 use Rattle.plan.specs.declared.Answer.{Answer}
 use Rattle.plan.specs.declared.Answer.the-variants as answer
@@ -31,26 +32,33 @@ use Rattle.plan.proofs.Promises.{order-answer}
 use Rattle.engine.specs.Calls.{planAt, acted, carriedOut, messageOf, mayGo, choiceOn, setupOf, replied, Answers, handedOver}
 use Rattle.engine.specs.Promises.{MessageRefusals, FinishRefusals, StartRefusals, ResetRefusals, SetupRefusals, AcceptedIsWhole, Goes, StartsNext}
 use Rattle.engine.specs.declared.Outcome.{Outcome}
-use Rattle.engine.proofs.Outcomes.{each-message, each-start, each-finish, each-reset}
+use Rattle.engine.proofs.Outcomes.{each-message, each-start, each-finish, each-reset, each-confirm, left-by}
 use Rattle.engine.proofs.Keeps.{accept-is-whole}
 
 -- ---- refusals
 
-abbrev isRefusal : Answer → Bool
-isRefusal answer.Ready = false
-isRefusal (answer.Accepted n) = false
-isRefusal (answer.Response tag code) = false
-isRefusal (answer.Status tag status sense) = false
-isRefusal (answer.Started n) = false
-isRefusal answer.Reset = false
-isRefusal (answer.Refused n) = true
+-- an answer by its sort
+abbrev sortOf : Answer → ℕ
+sortOf answer.Ready = 0
+sortOf (answer.Accepted n) = 1
+sortOf (answer.Response tag code) = 2
+sortOf (answer.Status tag status sense) = 3
+sortOf (answer.Invalid tag) = 4
+sortOf (answer.Started offset arrival) = 5
+sortOf (answer.Confirmed n) = 6
+sortOf (answer.Restarted n) = 7
+sortOf answer.Reset = 8
+sortOf (answer.Refused n) = 9
+
+unlike : {A : Type 0} {a b : Answer} → eqb (sortOf a) (sortOf b) ≡ false → a ≡ b → A
+unlike {a = a} {b = b} h e = absurd (eqb-false (sortOf a) (sortOf b) h (ap sortOf e))
 
 -- an answer is a refusal only where the table is t
 abbrev Stays : Table → Answer → Table → Type 0
 Stays t a u = (n : Refusal) → a ≡ answer.Refused n → u ≡ t
 
-no-refusal : {t u : Table} {a : Answer} → isRefusal a ≡ false → Stays t a u
-no-refusal h n e = absurd (never (ap isRefusal e) h)
+no-refusal : {t u : Table} {a : Answer} → eqb (sortOf a) 9 ≡ false → Stays t a u
+no-refusal h n = unlike h
 
 abbrev Kept : Table → Outcome → Type 0
 Kept t o = Stays t (o .answer) (o .table)
@@ -63,11 +71,15 @@ unfolding carriedOut acted
 ruling-kept t next p tag lun flags (Refuse k) = λ _ _. refl
 ruling-kept t next p tag lun flags (Respond code mood) = no-refusal refl
 ruling-kept t next p tag lun flags (Report status sense mood) = no-refusal refl
+ruling-kept t next p tag lun flags (Invalid mood) = no-refusal refl
 ruling-kept t next p tag lun flags Accept = no-refusal refl
 
-plan-kept : (t : Table) (f : Facts) (next p tag : ℕ) (m : List ℕ) (w : What) → PlanKept t (planOf f next p tag m w)
-plan-kept t f next p tag m (Command lun flags) = ruling-kept t next p tag lun flags (deciding f flags m .gives)
-plan-kept t f next p tag m (Manage o) = no-refusal (ap isRefusal (order-answer f p tag m o))
+plan-kept : (t : Table) (s : Seen) (next p tag : ℕ) (m : List ℕ) (w : What) → PlanKept t (planOf s next p tag m w)
+unfolding carriedOut acted
+plan-kept t s next p tag m (Command lun flags) = ruling-kept t next p tag lun flags (deciding (s .facts) flags m .gives)
+plan-kept t s next p tag m (Manage o) = no-refusal (ap (λ (a : Answer). eqb (sortOf a) 9) (order-answer (s .facts) p tag m o))
+plan-kept t s next p tag m (Confirm offset complete) =
+    each-confirm (PlanKept t) (s .own) p tag m offset complete (no-refusal refl) (λ _ _. refl) (λ _. no-refusal refl) (λ _ _. no-refusal refl)
 
 -- an outcome that meets a contract, where the outcome that it defines is kept
 as-defined : {t : Table} {defined o : Outcome} → Kept t defined → o ≡ defined → Kept t o
@@ -76,10 +88,7 @@ as-defined kept e = rw e kept
 with-reply : {t : Table} {defined : Outcome} (buf : List ℕ) {o : Outcome} {left : List ℕ} (n : Refusal)
     → Kept t defined → Answers defined buf o left → o .answer ≡ answer.Refused n → (o .table ≡ t) × (left ≡ buf)
 unfolding replied
-with-reply buf n kept x e = (
-  as-defined kept (x .outcome) n e,
-  x .buffer ∙ ap (λ (a : Answer). replied a buf) (sym (ap (λ (q : Outcome). q .answer) (x .outcome)) ∙ e),
-)
+with-reply buf n kept x e = (as-defined kept (x .outcome) n e, left-by buf x e)
 
 pub message-refusals : MessageRefusals
 unfolding planAt
@@ -87,8 +96,8 @@ message-refusals t m buf o left n =
     with-reply buf n (each-message (Kept t) t (λ _ _ _. refl) m (λ path tag w _ _. plan-kept t _ _ _ tag m w) (length buf))
 
 pub finish-refusals : FinishRefusals
-finish-refusals t arrival status s buf o left n =
-    with-reply buf n (each-finish (Kept t) t (λ _ _ _. refl) arrival status s (length buf) (λ _. no-refusal refl))
+finish-refusals t arrival status s transferred buf o left n =
+    with-reply buf n (each-finish (Kept t) t (λ _ _ _. refl) arrival status s transferred (length buf) (λ _. no-refusal refl))
 
 pub start-refusals : StartRefusals
 start-refusals t unit o n e = as-defined (each-start (Kept t) t (λ _ _ _. refl) unit (λ _ _ _. no-refusal refl)) e n
@@ -107,25 +116,26 @@ setup-refusals ids attached first o n e = as-defined (zero (badList ids) _) e n
 -- ---- an accepted command
 
 accepts-only : (next p tag lun arrival : ℕ) (flags : Flags) (r : Ruling) → ruled next p tag lun flags r .answer ≡ answer.Accepted arrival → r ≡ Accept
-accepts-only next p tag lun arrival flags (Refuse n) e = let z : _≡_ {A = ℕ} 0 1 = cc in absurd (omega arith)
-accepts-only next p tag lun arrival flags (Respond code mood) e = let z : _≡_ {A = ℕ} 0 1 = cc in absurd (omega arith)
-accepts-only next p tag lun arrival flags (Report status sense mood) e = let z : _≡_ {A = ℕ} 0 1 = cc in absurd (omega arith)
+accepts-only next p tag lun arrival flags (Refuse n) e = unlike refl e
+accepts-only next p tag lun arrival flags (Respond code mood) e = unlike refl e
+accepts-only next p tag lun arrival flags (Report status sense mood) e = unlike refl e
+accepts-only next p tag lun arrival flags (Invalid mood) e = unlike refl e
 accepts-only next p tag lun arrival flags Accept e = refl
 
 abbrev Whole : List ℕ → Type 0
 Whole m = (cutShort m ≡ false) × (noBlock m ≡ false)
 
 message-whole : (t : Table) (m : List ℕ) (n arrival : ℕ) → messageOf t m n .answer ≡ answer.Accepted arrival → Whole m
-unfolding planAt
+unfolding planAt seenOf
 message-whole t m n arrival =
-    each-message (λ (o : Outcome). o .answer ≡ answer.Accepted arrival → Whole m) t (λ k e. let z : _≡_ {A = ℕ} 0 1 = cc in absurd (omega arith)) m
-    (λ path tag w _ _. asked (pathOf t path) tag w) n
+    each-message (λ (o : Outcome). o .answer ≡ answer.Accepted arrival → Whole m) t (λ _. unlike refl) m (λ path tag w _ _. asked (pathOf t path) tag w) n
   where
     asked : (p tag : ℕ) (w : What) → planAt t m p tag w .answer ≡ answer.Accepted arrival → Whole m
     asked p tag (Command lun flags) e = accept-is-whole t p tag lun flags m (accepts-only (t .next) p tag lun arrival flags _ e)
-    asked p tag (Manage o) e =
-        let a : answer.Response tag _ ≡ answer.Accepted arrival = sym (order-answer _ p tag m o) ∙ e in
-        let z : _≡_ {A = ℕ} 0 1 = cc in absurd (omega arith)
+    asked p tag (Manage o) e = unlike refl (sym (order-answer _ p tag m o) ∙ e)
+    asked p tag (Confirm offset complete) e =
+        each-confirm (λ (pl : Plan). pl .answer ≡ answer.Accepted arrival → Whole m) (pickOf t (named p tag)) p tag m offset complete (unlike refl) (unlike refl)
+        (λ _. unlike refl) (λ _ _. unlike refl) e
 
 long-enough : (m : List ℕ) → cutShort m ≡ false → 16 + blockLength m ≤ length m
 unfolding cutShort
@@ -152,8 +162,14 @@ accepted-is-whole t m buf o left arrival x e =
 
 pub starts-next : StartsNext
 unfolding choiceOn pickOf
-starts-next t unit arrival o e h =
-    rw e (each-start (λ (o : Outcome). o .answer ≡ answer.Started arrival → Goes t unit arrival (o .table)) t
-    (λ k x. let z : _≡_ {A = ℕ} 0 1 = cc in absurd (omega arith)) unit
-    (λ _ _ found x. record { pick = choiceOn t unit; found = found; next = scan-is-next (t .live) (mayGo t unit) (t .tasks); answered = cc; runs = refl })
+starts-next t unit offset arrival o e h =
+    rw e (each-start (λ (o : Outcome). o .answer ≡ answer.Started offset arrival → Goes t unit offset arrival (o .table)) t (λ _. unlike refl) unit
+    (λ _ _ found x. record {
+      pick = choiceOn t unit;
+      found = found;
+      next = scan-is-next (t .live) (mayGo (unitAt t unit .aca) unit) (t .tasks);
+      number = cc;
+      offset-named = cc;
+      runs = refl;
+    })
     (rw e at h))

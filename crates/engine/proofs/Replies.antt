@@ -1,11 +1,11 @@
 -- Where a call's answer is a reply, it is one that can be written, and it stands at the front of the buffer: rule by rule, order by order, and for what a device may send. Assumes nothing.
-use Prim.Native.Nat.{ℕ, _≤_, _/_, _%_}
+use Prim.Native.Nat.{ℕ, _≤_}
 use mathlib.Core.Path.{_≡_, refl, sym, ap, _∙_}
 use mathlib.Core.Bool.{Bool, true, false, cond, not, _&&_, _||_}
-use mathlib.Core.List.{List, _∷_}
+use mathlib.Core.List.{List}
 use mathlib.Core.Option.{Option, none, some}
 use native.Mathlib.Omega.{arith}
-use lib.ListN.{length, replicate}
+use lib.ListN.{length}
 use lib.Dec.{eqb, leb}
 use borrow.Author.Tests.{le-ltb}
 use Rattle.wire.specs.Paper
@@ -15,29 +15,32 @@ use Rattle.wire.specs.declared.codes.ReturnCode.{ReturnCode}
 use Rattle.wire.specs.declared.codes.StatusByte.{StatusByte}
 use Rattle.wire.specs.declared.codes.Sense.{Sense}
 use Rattle.wire.specs.declared.message.Flags.{Flags}
-use Rattle.reply.specs.Replies.{isNone, writableOf, senseBytes, bytesOf}
+use Rattle.reply.specs.Replies.{isNone, writableOf}
 use Rattle.reply.specs.Calls.{leftOf}
 use Rattle.reply.specs.declared.Reply.{Reply}
 use Rattle.reply.specs.declared.Reply.the-variants as reply
+use Rattle.reply.proofs.Promises.{no-reply-is-longer}
 use Rattle.task.proofs.Ways.{never, cond-ind, both}
 use Rattle.table.specs.declared.Table.{Table}
 use Rattle.rules.specs.Rules.{roomRules, fieldRules, unitRules, blockRules, accepts, commandRules, deciding}
 use Rattle.rules.specs.Management.{hasUnit, carriedCode, orderCode}
 use Rattle.rules.specs.declared.rules.Facts.{Facts}
+use Rattle.rules.specs.declared.rules.Seen.{Seen}
 use Rattle.rules.specs.declared.rules.Ruling.{Ruling}
 use Rattle.rules.specs.declared.manage.Order.{Order}
 use Rattle.rules.specs.declared.manage.Order.the-variants as order
 use Rattle.rules.proofs.Entries.{everyGives, given-meets}
 use Rattle.plan.specs.Plans.{ruled, planOf}
 use Rattle.plan.specs.declared.What.{What}
-use Rattle.plan.specs.declared.What.the-variants.{Command, Manage}
+use Rattle.plan.specs.declared.What.the-variants.{Command, Manage, Confirm}
+use Rattle.plan.specs.declared.Plan.{Plan}
 use Rattle.plan.specs.declared.Answer.{Answer}
 use Rattle.plan.specs.declared.Answer.the-variants as answer
 use Rattle.plan.proofs.Promises.{order-answer}
 use Rattle.engine.specs.Calls.{refused, planAt, mayFinish, sentSense, replied, Answers}
 use Rattle.engine.specs.Promises.{replyOf, Written, RepliesAreWritten}
 use Rattle.engine.specs.declared.Outcome.{Outcome}
-use Rattle.engine.proofs.Outcomes.{each-heard, each-sent}
+use Rattle.engine.proofs.Outcomes.{each-heard, each-sent, each-confirm}
 
 -- ---- every answer that is a reply can be written
 
@@ -74,9 +77,12 @@ module _ (tag : ℕ) where
       cond-ind CodeFits (reservedSet m) (λ _. refl)
       (λ _. cond-ind CodeFits (hasUnit o && not (f .attached)) (λ _. refl) (λ _. carried-fits f o))
 
-plan-fits : (f : Facts) (next p tag : ℕ) (m : List ℕ) (w : What) → Fits (planOf f next p tag m w .answer)
-plan-fits f next p tag m (Command lun flags) = ruling-fits f next p tag m lun flags
-plan-fits f next p tag m (Manage o) = ap (λ (a : Answer). fits (replyOf a)) (order-answer f p tag m o) ∙ code-fits tag f m o
+plan-fits : (s : Seen) (next p tag : ℕ) (m : List ℕ) (w : What) → Fits (planOf s next p tag m w .answer)
+unfolding writableOf
+plan-fits s next p tag m (Command lun flags) = ruling-fits (s .facts) next p tag m lun flags
+plan-fits s next p tag m (Manage o) = ap (λ (a : Answer). fits (replyOf a)) (order-answer (s .facts) p tag m o) ∙ code-fits tag (s .facts) m o
+plan-fits s next p tag m (Confirm offset complete) =
+    each-confirm (λ (pl : Plan). Fits (pl .answer)) (s .own) p tag m offset complete refl refl (λ _. refl) (λ _ _. refl)
 
 -- a finish: the four statuses that a device may send, and its sense key
 sent-fits : (tag : ℕ) (status : StatusByte) (s : Sense) → mayFinish status s ≡ true → Fits (answer.Status tag status (sentSense status s))
@@ -106,22 +112,18 @@ replied-by answer.Ready buf = refl
 replied-by (answer.Accepted n) buf = refl
 replied-by (answer.Response tag code) buf = refl
 replied-by (answer.Status tag status sense) buf = refl
-replied-by (answer.Started n) buf = refl
+replied-by (answer.Invalid tag) buf = refl
+replied-by (answer.Started offset arrival) buf = refl
+replied-by (answer.Confirmed n) buf = refl
+replied-by (answer.Restarted n) buf = refl
 replied-by answer.Reset buf = refl
 replied-by (answer.Refused n) buf = refl
-
-no-longer : (r : Reply) → length (bytesOf r) ≤ Paper.replyRoom
-unfolding bytesOf
-no-longer (reply.Response tag code) = omega arith
-no-longer (reply.Status tag status s) =
-    cond-ind (λ (l : List ℕ). length (Paper.smsCode ∷ Paper.scsiStatus ∷ tag / 256 ∷ tag % 256 ∷ status .0 ∷ 0 ∷ 0 ∷ 0 ∷ l) ≤ 64)
-    (eqb (status .0) (Paper.checkCondition .0)) {x = senseBytes s} {y = replicate 18 0} (λ _. omega arith) (λ _. omega arith)
 
 written : (a : Answer) (buf : List ℕ) (r : Reply) → Paper.replyRoom ≤ length buf → Fits a → replyOf a ≡ some r → Written r buf (replied a buf)
 unfolding leftOf
 written a buf r l f e =
     let w : writableOf r ≡ true = sym (ap fits e) ∙ f in
-    record { writable = w; no-longer = no-longer r; in-front = replied-by a buf ∙ ap (leftBy buf) e ∙ rw (le-ltb (length buf) 64 l, w) }
+    record { writable = w; no-longer = no-reply-is-longer r; in-front = replied-by a buf ∙ ap (leftBy buf) e ∙ rw (le-ltb (length buf) 64 l, w) }
 
 -- what a call's outcome has to be for that
 abbrev Sends : List ℕ → Outcome → Type 0
@@ -138,6 +140,6 @@ unfolding planAt
 replies-are-written = record {
   message = λ t m buf _ _ r.
       by-contract buf r (each-heard (Sends buf) t (refusal-sends buf t) m (length buf) (λ l path tag w _ _ r. written _ buf r l (plan-fits _ _ _ tag m w)));
-  finish = λ t arrival status s buf _ _ r.
-      by-contract buf r (each-sent (Sends buf) t (refusal-sends buf t) arrival status s (length buf) (λ l h _ r. written _ buf r l (sent-fits _ status s h)));
+  finish = λ t arrival status s transferred buf _ _ r.
+      by-contract buf r (each-sent (Sends buf) t (refusal-sends buf t) arrival status s transferred (length buf) (λ l h _ r. written _ buf r l (sent-fits _ status s h)));
 }

@@ -12,7 +12,7 @@ pub answers-are-one : AnswersAreOne
 answers-are-one = record {
   message = λ _ _ buf. with-reply _ buf;
   start = λ _ _ _ _. determined;
-  finish = λ _ _ _ _ buf. with-reply _ buf;
+  finish = λ _ _ _ _ _ buf. with-reply _ buf;
   total-reset = λ _ _ _. determined;
   setup = λ _ _ _ _ _. determined;
   command-block = λ _ _ _ _. determined;

@@ -16,11 +16,13 @@ use Rattle.task.specs.Selections.{runningOn, waitingOn, acaWaitingOn, runningAs
 use Rattle.task.specs.declared.Task.{Task}
 use Rattle.task.specs.declared.scan.Pick.{Pick}
 use Rattle.task.specs.declared.select.Selection.{Selection}
-use Rattle.table.specs.Tables.{pathOf, pathAt, unitAt, taskAt, isAttached, anyLive, pickOf, accepted, endedBy, started, finished, resetOf}
+use Rattle.table.specs.Tables.{pathOf, pathAt, unitAt, isAttached, pickOf, accepted, endedBy, started, restarted, finished, resetOf}
 use Rattle.table.specs.Setup.{badList, setupTable}
 use Rattle.table.specs.Sound.{soundOf}
 use Rattle.table.specs.declared.Table.{Table}
-use Rattle.rules.specs.Rules.{hasAca, factsOf}
+use Rattle.table.specs.declared.Aca.{Aca}
+use Rattle.rules.specs.Rules.{hasAca, seenOf}
+use Rattle.rules.specs.declared.rules.Seen.{Seen}
 use Rattle.plan.specs.Plans.{askedOf, tagAsked, unitAsked, clearsSet, refusing, planOf, pathsAfter, unitsAfter}
 use Rattle.plan.specs.declared.What.{What}
 use Rattle.plan.specs.declared.Asked.{Asked}
@@ -32,6 +34,7 @@ use Rattle.plan.specs.declared.Plan.{Plan}
 use Rattle.plan.specs.declared.Answer.{Answer}
 use Rattle.plan.specs.declared.Answer.the-variants as answer
 use Rattle.engine.specs.declared.Outcome.{Outcome}
+use Rattle.engine.specs.declared.calls.Verdict.{Verdict}
 
 -- ---- an outcome: the table, the answer, and the id of the path that the reply goes to, 0 with no reply
 
@@ -48,9 +51,22 @@ unfoldable pub heardOf : Bool → ℕ → List ℕ → Asked
 heardOf sound room m =
     cond (not sound) (Unread Paper.notSound) (cond (ltb room Paper.replyRoom) (Unread Paper.smallBuffer) (askedOf (readOf m)))
 
--- the plan for what the path with an id asks; p is its place in the path list
+-- the id of the path that is heard; 0 where nothing is
+abbrev pub senderOf : Asked → ℕ
+senderOf (Unread n) = 0
+senderOf (By path tag w) = path
+
+-- the plan for what the path at p asks, by what was seen of the table; 8 is no place in the path list
+unfoldable pub listedPlan : Seen → ℕ → ℕ → ℕ → List ℕ → What → Plan
+listedPlan s next p tag m w = cond (ltb p 8) (planOf s next p tag m w) (refusing Paper.unknownPath)
+
+-- what is to be seen of the table for it
+abbrev pub seenFor : Table → ℕ → ℕ → What → Seen
+seenFor t p tag w = seenOf t p (tagAsked tag w) (unitAsked w) (clearsSet w)
+
+-- the plan for what the path at p asks of the table; for what the path with an id asks
 unfoldable pub planAt : Table → List ℕ → ℕ → ℕ → What → Plan
-planAt t m p tag w = planOf (factsOf t p (tagAsked tag w) (unitAsked w) (clearsSet w)) (t .next) p tag m w
+planAt t m p tag w = planOf (seenFor t p tag w) (t .next) p tag m w
 
 unfoldable pub planFor : Table → List ℕ → ℕ → ℕ → What → Plan
 planFor t m path tag w = cond (ltb (pathOf t path) 8) (planAt t m (pathOf t path) tag w) (refusing Paper.unknownPath)
@@ -69,8 +85,9 @@ withParts t c = record {
 
 unfoldable pub acted : Table → Deed → Table
 acted t deed.Nothing = t
-acted t (deed.Accept path tag lun kind) = accepted t path tag lun kind
+acted t (deed.Accept path tag lun kind confirm) = accepted t path tag lun kind confirm
 acted t (deed.End s) = endedBy t s
+acted t (deed.Restart place offset) = restarted t place offset
 
 unfoldable pub carriedOut : Table → Plan → Table
 carriedOut t pl = acted (withParts t (pl .change)) (pl .deed)
@@ -81,7 +98,10 @@ replyPath answer.Ready path = 0
 replyPath (answer.Accepted n) path = 0
 replyPath (answer.Response tag code) path = path
 replyPath (answer.Status tag status sense) path = path
-replyPath (answer.Started n) path = 0
+replyPath (answer.Invalid tag) path = path
+replyPath (answer.Started offset arrival) path = 0
+replyPath (answer.Confirmed n) path = 0
+replyPath (answer.Restarted n) path = 0
 replyPath answer.Reset path = 0
 replyPath (answer.Refused n) path = 0
 
@@ -96,20 +116,39 @@ answeredTo t m (By path tag w) = carried t path (planFor t m path tag w)
 unfoldable pub messageOf : Table → List ℕ → ℕ → Outcome
 messageOf t m n = answeredTo t m (heardOf (soundOf t) n m)
 
+-- ---- a call of the device: what it comes to, then the one record changes
+
+-- the answer, the record that it is about, and the id of the path that the reply goes to; 64 is no record, and no change of it changes the table
+abbrev pub verdict : Answer → ℕ → ℕ → Verdict
+verdict a place to = record { answer = a; place = place; to = to }
+
+abbrev pub rejected : Refusal → Verdict
+rejected n = verdict (answer.Refused n) 64 0
+
+abbrev pub settled : Verdict → Table → Outcome
+settled v t = out t (v .answer) (v .to)
+
 -- start, for a unit with nothing running: 13, 6, 7, 8. Under ACA only the ACA task may go
-abbrev pub mayGo : Table → ℕ → Selection
-mayGo t unit = cond (hasAca (unitAt t unit .aca)) (acaWaitingOn unit) (waitingOn unit)
+abbrev pub mayGo : Aca → ℕ → Selection
+mayGo aca unit = cond (hasAca aca) (acaWaitingOn unit) (waitingOn unit)
 
 unfoldable pub choiceOn : Table → ℕ → Pick
-choiceOn t unit = pickOf t (mayGo t unit)
+choiceOn t unit = pickOf t (mayGo (unitAt t unit .aca) unit)
+
+-- the arrival number is answered, and the offset to start at: the one named by the last restart, 0 for a task never restarted
+abbrev pub goes : Pick → Verdict
+goes p = verdict (answer.Started (p .task .offset) (p .task .arrival)) (p .at) 0
+
+unfoldable pub startVerdict : Table → ℕ → Verdict
+startVerdict t unit =
+    cond (not (soundOf t)) (rejected Paper.notSound)
+    (cond (not (isAttached t unit)) (rejected Paper.notAttached)
+    (cond (pickOf t (runningOn unit) .found) (rejected Paper.unitBusy)
+    (cond (not (choiceOn t unit .found)) (rejected Paper.nothingToStart)
+    (goes (choiceOn t unit)))))
 
 unfoldable pub startOf : Table → ℕ → Outcome
-startOf t unit =
-    cond (not (soundOf t)) (refused t Paper.notSound)
-    (cond (not (isAttached t unit)) (refused t Paper.notAttached)
-    (cond (anyLive t (runningOn unit)) (refused t Paper.unitBusy)
-    (cond (not (choiceOn t unit .found)) (refused t Paper.nothingToStart)
-    (out (started t (choiceOn t unit .at)) (answer.Started (choiceOn t unit .arrival)) 0))))
+startOf t unit = settled (startVerdict t unit) (started t (startVerdict t unit .place))
 
 -- finish: 13, 5, 10, 9. Status 00h, 02h, 04h or 18h, sense key up to 15
 abbrev pub mayFinish : StatusByte → Sense → Bool
@@ -123,16 +162,24 @@ sentSense status s = cond (eqb (status .0) (Paper.checkCondition .0)) s Paper.no
 
 -- the running task of an arrival number
 abbrev pub runningTask : Table → ℕ → Task
-runningTask t arrival = taskAt t (pickOf t (runningAs arrival) .at)
+runningTask t arrival = pickOf t (runningAs arrival) .task
 
-unfoldable pub finishOf : Table → ℕ → StatusByte → Sense → ℕ → Outcome
-finishOf t arrival status s n =
-    cond (not (soundOf t)) (refused t Paper.notSound)
-    (cond (ltb n Paper.replyRoom) (refused t Paper.smallBuffer)
-    (cond (not (mayFinish status s)) (refused t Paper.badStatus)
-    (cond (not (pickOf t (runningAs arrival) .found)) (refused t Paper.notRunning)
-    (out (finished t (runningTask t arrival) (eqb (status .0) (Paper.checkCondition .0)))
-    (answer.Status (runningTask t arrival .tag) status (sentSense status s)) (pathAt t (runningTask t arrival .path) .id)))))
+abbrev pub failed : StatusByte → Bool
+failed status = eqb (status .0) (Paper.checkCondition .0)
+
+-- n is the length of the reply buffer
+unfoldable pub finishVerdict : Table → ℕ → StatusByte → Sense → ℕ → Verdict
+finishVerdict t arrival status s n =
+    cond (not (soundOf t)) (rejected Paper.notSound)
+    (cond (ltb n Paper.replyRoom) (rejected Paper.smallBuffer)
+    (cond (not (mayFinish status s)) (rejected Paper.badStatus)
+    (cond (not (pickOf t (runningAs arrival) .found)) (rejected Paper.notRunning)
+    (verdict (answer.Status (runningTask t arrival .tag) status (sentSense status s)) (pickOf t (runningAs arrival) .at) (pathAt t (runningTask t arrival .path) .id)))))
+
+-- the task ends, or with CONFIRM waits to be confirmed, with the bytes transferred
+unfoldable pub finishOf : Table → ℕ → StatusByte → Sense → ℕ → ℕ → Outcome
+finishOf t arrival status s transferred n =
+    settled (finishVerdict t arrival status s n) (finished t (finishVerdict t arrival status s n .place) (failed status) transferred)
 
 -- total reset: 13 only
 unfoldable pub totalResetOf : Table → Outcome
@@ -150,7 +197,10 @@ replied answer.Ready buf = buf
 replied (answer.Accepted n) buf = buf
 replied (answer.Response tag code) buf = leftOf (reply.Response tag code) buf
 replied (answer.Status tag status sense) buf = leftOf (reply.Status tag status sense) buf
-replied (answer.Started n) buf = buf
+replied (answer.Invalid tag) buf = leftOf (reply.Invalid tag) buf
+replied (answer.Started offset arrival) buf = buf
+replied (answer.Confirmed n) buf = buf
+replied (answer.Restarted n) buf = buf
 replied answer.Reset buf = buf
 replied (answer.Refused n) buf = buf
 
@@ -166,6 +216,9 @@ handedOver m answer.Ready = []
 handedOver m (answer.Accepted n) = blockOf m
 handedOver m (answer.Response tag code) = []
 handedOver m (answer.Status tag status sense) = []
-handedOver m (answer.Started n) = []
+handedOver m (answer.Invalid tag) = []
+handedOver m (answer.Started offset arrival) = []
+handedOver m (answer.Confirmed n) = []
+handedOver m (answer.Restarted n) = []
 handedOver m answer.Reset = []
 handedOver m (answer.Refused n) = []

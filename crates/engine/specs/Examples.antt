@@ -1,8 +1,8 @@
--- Page 01's proved examples a to l as one table, its worked calls, and what each order ends.
+-- Page 01's proved examples a to l as one table, its worked calls, confirmed status as another table, and what each order ends.
 -- Paths 1 and 2, mask 01h, no attention, nothing live unless said; tag 0005h, path 1, kind 3, zero CDB.
 use Prim.Native.Nat.{ℕ, zero, suc, _+_, _-_, _^_}
 use mathlib.Core.Path.{_≡_}
-use mathlib.Core.Bool.{false}
+use mathlib.Core.Bool.{true, false}
 use mathlib.Core.List.{List, [], _∷_, map}
 use lib.ListN.{replicate}
 use Rattle.wire.specs.Paper
@@ -11,13 +11,13 @@ use Rattle.task.specs.Tasks.{noTask}
 use Rattle.task.specs.declared.Task.{Task}
 use Rattle.task.specs.declared.Kind.the-variants.{Aca, Simple}
 use Rattle.task.specs.declared.Phase.the-variants.{Waiting}
-use Rattle.table.specs.Tables.{noPath, noUnit, accepted}
+use Rattle.table.specs.Tables.{noPath, noUnit, accepted, started, finished}
 use Rattle.table.specs.declared.Table.{Table}
 use Rattle.table.specs.declared.Path as path
 use Rattle.table.specs.declared.Aca.the-variants.{Owned}
 use Rattle.table.specs.declared.Attention.the-variants as attention
 use Rattle.plan.specs.declared.Answer.{Answer}
-use Rattle.plan.specs.declared.Answer.the-variants.{Accepted, Response, Status, Started, Refused}
+use Rattle.plan.specs.declared.Answer.the-variants.{Accepted, Response, Status, Invalid, Started, Confirmed, Restarted, Refused}
 use Rattle.engine.specs.Calls.{messageOf, startOf, finishOf, setupOf, replied}
 use Rattle.engine.specs.declared.Outcome.{Outcome}
 
@@ -35,10 +35,23 @@ quiet = record {
   tasks = replicate 64 noTask;
 }
 
+abbrev pub queued : ℕ → Task
+queued k = record {
+  arrival = k;
+  transferred = 0;
+  offset = 0;
+  tag = 0x100 + k;
+  path = 0;
+  unit = 0;
+  kind = Simple;
+  phase = Waiting;
+  confirm = false;
+}
+
 -- n tasks of path 1, with tags and arrival numbers from k on
 unfoldable pub tasksFrom : ℕ → ℕ → List Task
 tasksFrom k zero = []
-tasksFrom k (suc n) = record { arrival = k; tag = 0x100 + k; path = 0; unit = 0; kind = Simple; phase = Waiting } ∷ tasksFrom (suc k) n
+tasksFrom k (suc n) = queued k ∷ tasksFrom (suc k) n
 
 unfoldable pub full : Table
 full = record { live = 2 ^ 64 - 1; next = 65; count = 2; attached = 0x01; paths = quiet .paths; units = quiet .units; tasks = tasksFrom 1 64 }
@@ -68,11 +81,15 @@ pub record Example : Type 0 where
   pub answer : Answer
   pub reply : List ℕ
 
+-- an answer with no reply
+abbrev pub silent : Table → List ℕ → Answer → Example
+silent t m a = record { table = t; message = m; answer = a; reply = [] }
+
 abbrev pub refused : Table → List ℕ → ℕ → Example
-refused t m n = record { table = t; message = m; answer = Refused (Paper.refusal n); reply = [] }
+refused t m n = silent t m (Refused (Paper.refusal n))
 
 abbrev pub accept : Table → List ℕ → ℕ → Example
-accept t m arrival = record { table = t; message = m; answer = Accepted arrival; reply = [] }
+accept t m arrival = silent t m (Accepted arrival)
 
 -- RESPONSE to tag 0005h
 abbrev pub response : Table → List ℕ → ℕ → Example
@@ -95,6 +112,10 @@ check t m key code = record {
   reply = 0x83 ∷ 0x11 ∷ 0x00 ∷ 0x05 ∷ 0x02 ∷ 0 ∷ 0 ∷ 0 ∷ 0x70 ∷ 0 ∷ key ∷ 0 ∷ 0 ∷ 0 ∷ 0 ∷ 0x0a ∷ 0 ∷ 0 ∷ 0 ∷ 0 ∷ code ∷ 0 ∷ 0 ∷ 0 ∷ 0 ∷ 0 ∷ [];
 }
 
+-- STATUS 00h with RETURN CODE FFh to tag 0005h
+abbrev pub invalid : Table → List ℕ → Example
+invalid t m = record { table = t; message = m; answer = Invalid 5; reply = 0x83 ∷ 0x11 ∷ 0x00 ∷ 0x05 ∷ 0x00 ∷ 0x00 ∷ 0xff ∷ replicate 19 0 }
+
 -- the full table, after its command was answered
 abbrev pub again : Table
 again = messageOf full plain 64 .table
@@ -113,8 +134,8 @@ examples =
     ∷ response quiet (command 1 0 3 1 zeros) 0xff  -- g
     ∷ check quiet (command 1 7 3 0 zeros) 0x05 0x25  -- h
     ∷ check quiet (command 1 0 3 0 (0x60 ∷ [])) 0x05 0x20  -- i
-    ∷ response (accepted quiet 0 5 0 Simple) plain 0x04  -- j
-    ∷ accept (accepted quiet 1 5 0 Simple) plain 2
+    ∷ response (accepted quiet 0 5 0 Simple false) plain 0x04  -- j
+    ∷ accept (accepted quiet 1 5 0 Simple false) plain 2
     ∷ check quiet (command 1 0 0 0 zeros) 0x05 0x49  -- k
     ∷ refused quiet (unitReset []) 1  -- l
     ∷ response quiet (unitReset (0 ∷ [])) 0x00
@@ -149,19 +170,73 @@ abbrev pub worked3 : Outcome
 worked3 = startOf (worked2 .table) 0
 
 abbrev pub worked4 : Outcome
-worked4 = finishOf (worked3 .table) 1 (Paper.statusByte 0x00) Paper.noSense 64
+worked4 = finishOf (worked3 .table) 1 (Paper.statusByte 0x00) Paper.noSense 0 64
 
 abbrev pub worked5 : Outcome
-worked5 = finishOf (worked4 .table) 1 (Paper.statusByte 0x00) Paper.noSense 64
+worked5 = finishOf (worked4 .table) 1 (Paper.statusByte 0x00) Paper.noSense 0 64
 
 abbrev pub WorkedCalls : Type 0
 WorkedCalls =
     map (λ (o : Outcome). o .answer) (worked1 ∷ worked2 ∷ worked3 ∷ worked4 ∷ worked5 ∷ [])
-    ≡ Status 5 (Paper.statusByte 0x02) (Paper.sense 0x06 0x29 0x00) ∷ Accepted 1 ∷ Started 1 ∷ Status 6 (Paper.statusByte 0x00) Paper.noSense ∷ Refused (Paper.refusal 9) ∷ []
+    ≡ Status 5 (Paper.statusByte 0x02) (Paper.sense 0x06 0x29 0x00) ∷ Accepted 1 ∷ Started 0 1 ∷ Status 6 (Paper.statusByte 0x00) Paper.noSense ∷ Refused (Paper.refusal 9) ∷ []
+
+-- ---- confirmed status
+
+-- the command with CONFIRM, and with OOT and CONFIRM
+abbrev pub confirming : List ℕ
+confirming = command 1 0 0x13 0 zeros
+
+abbrev pub contradicting : List ℕ
+contradicting = command 1 0 0x53 0 zeros
+
+-- CONFIRM STATUS for tag 0005h: OLD and NEW RETURN PATH ID, BYTE OFFSET up to FFh, byte 16
+abbrev pub confirm : ℕ → ℕ → ℕ → List ℕ → List ℕ
+confirm path new offset last = 0x83 ∷ 0x12 ∷ 0 ∷ 5 ∷ 0 ∷ 0 ∷ 0 ∷ path ∷ 0 ∷ 0 ∷ 0 ∷ new ∷ 0 ∷ 0 ∷ 0 ∷ offset ∷ last
+
+-- the tables on the way: tag 0005h with CONFIRM of paths 1 and 2 waits; that of path 1 runs; 16 bytes were transferred; it is to start again at 8
+unfoldable pub waits : Table
+waits = accepted (accepted quiet 0 5 0 Simple true) 1 5 0 Simple true
+
+unfoldable pub underway : Table
+underway = startOf waits 0 .table
+
+unfoldable pub unconfirmed : Table
+unconfirmed = finishOf underway 1 Paper.good Paper.noSense 16 64 .table
+
+unfoldable pub again8 : Table
+again8 = messageOf unconfirmed (confirm 1 1 8 (0 ∷ [])) 64 .table
+
+unfoldable pub confirmations : List Example
+confirmations =
+    invalid quiet contradicting
+    ∷ accept quiet confirming 1
+    ∷ response unconfirmed confirming 0x04  -- a task that waits to be confirmed is live
+    ∷ refused unconfirmed (confirm 1 1 0 []) 1  -- 16 bytes
+    ∷ refused unconfirmed (confirm 9 1 0 (0x80 ∷ [])) 3
+    ∷ response unconfirmed (confirm 1 1 0 (0x81 ∷ [])) 0xff  -- a reserved bit
+    ∷ response quiet (confirm 1 1 0 (0x40 ∷ [])) 0xff  -- before 15
+    ∷ refused quiet (confirm 1 1 0 (0x80 ∷ [])) 15
+    ∷ refused waits (confirm 1 1 0 (0x80 ∷ [])) 15  -- it waits to start
+    ∷ refused underway (confirm 1 1 0 (0x80 ∷ [])) 15  -- it runs
+    ∷ refused unconfirmed (confirm 2 2 0 (0x80 ∷ [])) 15  -- the tag of another path
+    ∷ silent unconfirmed (confirm 1 1 0xff (0x80 ∷ [])) (Confirmed 1)
+    ∷ silent unconfirmed (confirm 1 2 0 (0x80 ∷ [])) (Confirmed 1)  -- NEW RETURN PATH ID is not looked at
+    ∷ silent unconfirmed (confirm 1 1 16 (0 ∷ [])) (Restarted 1)
+    ∷ response unconfirmed (confirm 1 1 17 (0 ∷ [])) 0xff
+    ∷ []
+
+abbrev pub ConfirmationsHold : Type 0
+ConfirmationsHold = map given confirmations ≡ map said confirmations
+
+-- the device's side: the unit is free and path 2's task goes; the finished one runs no more; restarted, it goes first, and the offset is handed back
+abbrev pub ConfirmedCalls : Type 0
+ConfirmedCalls =
+    map (λ (o : Outcome). o .answer) (startOf unconfirmed 0 ∷ finishOf unconfirmed 1 Paper.good Paper.noSense 16 64 ∷ startOf again8 0 ∷ [])
+    ≡ Started 0 2 ∷ Refused (Paper.refusal 9) ∷ Started 8 1 ∷ []
 
 -- ---- what an order ends
 
--- tag 0005h of paths 1 and 2 on unit 0, and tag 0006h of path 2, the ACA task, on unit 1: records 0, 1 and 2, so that live is 7
+-- tag 0005h of paths 1 and 2 on unit 0, the second unconfirmed, and tag 0006h of path 2, the ACA task, on unit 1: records 0, 1 and 2, so that live is 7
 abbrev pub owned : Table
 owned = record {
   live = 0;
@@ -174,7 +249,7 @@ owned = record {
 }
 
 unfoldable pub shared : Table
-shared = accepted (accepted (accepted owned 0 5 0 Simple) 1 5 0 Simple) 1 6 1 Aca
+shared = finished (started (accepted (accepted (accepted owned 0 5 0 Simple false) 1 5 0 Simple true) 1 6 1 Aca false) 1) 1 false 16
 
 -- an order of path 2: S3P CODE, then LUN or TAG 2
 abbrev pub order : ℕ → List ℕ → List ℕ

@@ -1,7 +1,7 @@
 -- What is promised of the calls beside their contracts. Each is proved in proofs/Promises.antt or a file that it names; Unique.antt has that outcomes are one.
 use Prim.Native.Nat.{ℕ, _<_, _≤_, _^_}
 use mathlib.Core.Path.{_≡_}
-use mathlib.Core.Bool.{true, false}
+use mathlib.Core.Bool.{Bool, true, false}
 use mathlib.Core.List.{List}
 use mathlib.Core.Option.{Option, none, some}
 use lib.ListN.{length}
@@ -16,14 +16,18 @@ use Rattle.reply.specs.Replies.{writableOf, bytesOf}
 use Rattle.reply.specs.Calls.{placed}
 use Rattle.reply.specs.declared.Reply.{Reply}
 use Rattle.reply.specs.declared.Reply.the-variants as reply
+use Rattle.task.specs.Tasks.{isUnconfirmed, restarts}
 use Rattle.task.specs.Next.{Next}
 use Rattle.task.specs.declared.Task.{Task}
 use Rattle.task.specs.declared.scan.Pick.{Pick}
-use Rattle.table.specs.Tables.{zeroTable, pathOf, pathAt, started}
+use Rattle.table.specs.Tables.{zeroTable, pathOf, pathAt, unitAt, started}
 use Rattle.table.specs.Setup.{badList}
 use Rattle.table.specs.View.{at}
 use Rattle.table.specs.Promises.{Good}
 use Rattle.table.specs.declared.Table.{Table}
+use Rattle.plan.specs.Plans.{askedOf}
+use Rattle.plan.specs.declared.What.the-variants.{Confirm}
+use Rattle.plan.specs.declared.Asked.the-variants.{By}
 use Rattle.plan.specs.declared.Answer.{Answer}
 use Rattle.plan.specs.declared.Answer.the-variants as answer
 use Rattle.engine.specs.Calls.{messageOf, startOf, finishOf, totalResetOf, setupOf, mayGo, replied, Answers, handedOver}
@@ -36,8 +40,8 @@ MessageRefusals = (t : Table) (m buf : List ℕ) (o : Outcome) (left : List ℕ)
     → Answers (messageOf t m (length buf)) buf o left → o .answer ≡ answer.Refused n → (o .table ≡ t) × (left ≡ buf)
 
 abbrev pub FinishRefusals : Type 0
-FinishRefusals = (t : Table) (arrival : ℕ) (status : StatusByte) (s : Sense) (buf : List ℕ) (o : Outcome) (left : List ℕ) (n : Refusal)
-    → Answers (finishOf t arrival status s (length buf)) buf o left → o .answer ≡ answer.Refused n → (o .table ≡ t) × (left ≡ buf)
+FinishRefusals = (t : Table) (arrival : ℕ) (status : StatusByte) (s : Sense) (transferred : ℕ) (buf : List ℕ) (o : Outcome) (left : List ℕ) (n : Refusal)
+    → Answers (finishOf t arrival status s transferred (length buf)) buf o left → o .answer ≡ answer.Refused n → (o .table ≡ t) × (left ≡ buf)
 
 abbrev pub StartRefusals : Type 0
 StartRefusals = (t : Table) (unit : ℕ) (o : Outcome) (n : Refusal) → o ≡ startOf t unit → o .answer ≡ answer.Refused n → o .table ≡ t
@@ -56,7 +60,10 @@ replyOf answer.Ready = none
 replyOf (answer.Accepted n) = none
 replyOf (answer.Response tag code) = some (reply.Response tag code)
 replyOf (answer.Status tag status sense) = some (reply.Status tag status sense)
-replyOf (answer.Started n) = none
+replyOf (answer.Invalid tag) = some (reply.Invalid tag)
+replyOf (answer.Started offset arrival) = none
+replyOf (answer.Confirmed n) = none
+replyOf (answer.Restarted n) = none
 replyOf answer.Reset = none
 replyOf (answer.Refused n) = none
 
@@ -67,12 +74,12 @@ pub record Written (r : Reply) (buf left : List ℕ) : Type 0 where
   pub in-front : left ≡ placed (bytesOf r) buf
 
 -- whatever the buffer: with under 64 bytes no answer is a reply. So no other code than 00h, 01h, 04h, 20h and FFh goes out, no other status than the six,
--- and no reply is left unwritten
+-- RETURN CODE FFh with 00h alone, and no reply is left unwritten
 pub record RepliesAreWritten : Type 0 where
   pub message : (t : Table) (m buf : List ℕ) (o : Outcome) (left : List ℕ) (r : Reply)
       → Answers (messageOf t m (length buf)) buf o left → replyOf (o .answer) ≡ some r → Written r buf left
-  pub finish : (t : Table) (arrival : ℕ) (status : StatusByte) (s : Sense) (buf : List ℕ) (o : Outcome) (left : List ℕ) (r : Reply)
-      → Answers (finishOf t arrival status s (length buf)) buf o left → replyOf (o .answer) ≡ some r → Written r buf left
+  pub finish : (t : Table) (arrival : ℕ) (status : StatusByte) (s : Sense) (transferred : ℕ) (buf : List ℕ) (o : Outcome) (left : List ℕ) (r : Reply)
+      → Answers (finishOf t arrival status s transferred (length buf)) buf o left → replyOf (o .answer) ≡ some r → Written r buf left
 
 -- ---- what an accepted command and a start come to
 
@@ -82,16 +89,40 @@ AcceptedIsWhole = (t : Table) (m buf : List ℕ) (o : Outcome) (left : List ℕ)
     → Answers (messageOf t m (length buf)) buf o left → o .answer ≡ answer.Accepted arrival
     → (cutShort m ≡ false) × (noBlock m ≡ false) × (length (handedOver m (o .answer)) ≡ blockLength m)
 
--- the record of one of the tasks that may go, and of these the one that goes next: it runs in the table after, and its arrival number is the answer
-pub record Goes (t : Table) (unit arrival : ℕ) (after : Table) : Type 0 where
+-- the record of one of the tasks that may go, and of these the one that goes next: it runs in the table after, and its arrival number and offset are the answer
+pub record Goes (t : Table) (unit offset arrival : ℕ) (after : Table) : Type 0 where
   pub pick : Pick
   pub found : pick .found ≡ true
-  pub next : Next (t .live) (mayGo t unit) (t .tasks) (length (t .tasks)) pick
-  pub answered : pick .arrival ≡ arrival
+  pub next : Next (t .live) (mayGo (unitAt t unit .aca) unit) (t .tasks) (length (t .tasks)) pick
+  pub number : pick .task .arrival ≡ arrival
+  pub offset-named : pick .task .offset ≡ offset
   pub runs : after ≡ started t (pick .at)
 
 abbrev pub StartsNext : Type 0
-StartsNext = (t : Table) (unit arrival : ℕ) (o : Outcome) → o ≡ startOf t unit → o .answer ≡ answer.Started arrival → Goes t unit arrival (o .table)
+StartsNext = (t : Table) (unit offset arrival : ℕ) (o : Outcome) → o ≡ startOf t unit → o .answer ≡ answer.Started offset arrival → Goes t unit offset arrival (o .table)
+
+-- ---- what becomes of a task that waits to be confirmed
+
+-- the live task a of the sender, with the tag of the message, that waits to be confirmed, has the number
+pub record Awaited (t : Table) (path tag arrival place : ℕ) (a : Task) : Type 0 where
+  pub below : place < 64
+  pub here : at t place ≡ some a
+  pub sender : a .path ≡ pathOf t path
+  pub named : a .tag ≡ tag
+  pub number : a .arrival ≡ arrival
+  pub waits : isUnconfirmed (a .phase) ≡ true
+
+-- `confirmed` and `restarted` name the sender's own task that waits to be confirmed. `confirmed` ends it; `restarted` has it wait again under its number,
+-- at an offset within the bytes transferred; every other record stays. No reply is sent
+pub record ConfirmsItsOwn : Type 0 where
+  pub confirmed : (t : Table) (m buf : List ℕ) (o : Outcome) (left : List ℕ) (path tag offset arrival : ℕ) (complete : Bool)
+      → Good t → Answers (messageOf t m (length buf)) buf o left → askedOf (readOf m) ≡ By path tag (Confirm offset complete) → o .answer ≡ answer.Confirmed arrival
+      → (i : ℕ) × (a : Task) × Awaited t path tag arrival i a × (at (o .table) i ≡ none)
+      × ((j : ℕ) → j < 64 → (j ≡ i → ⊥) → at (o .table) j ≡ at t j) × (left ≡ buf)
+  pub restarted : (t : Table) (m buf : List ℕ) (o : Outcome) (left : List ℕ) (path tag offset arrival : ℕ) (complete : Bool)
+      → Good t → Answers (messageOf t m (length buf)) buf o left → askedOf (readOf m) ≡ By path tag (Confirm offset complete) → o .answer ≡ answer.Restarted arrival
+      → (i : ℕ) × (a : Task) × Awaited t path tag arrival i a × (offset ≤ a .transferred) × (at (o .table) i ≡ some (restarts offset a))
+      × ((j : ℕ) → j < 64 → (j ≡ i → ⊥) → at (o .table) j ≡ at t j) × (left ≡ buf)
 
 -- ---- every call keeps a table sound, and setup's is
 
@@ -102,7 +133,7 @@ abbrev pub StartKeeps : Type 0
 StartKeeps = (t : Table) (unit : ℕ) → Good t → Good (startOf t unit .table)
 
 abbrev pub FinishKeeps : Type 0
-FinishKeeps = (t : Table) (arrival : ℕ) (status : StatusByte) (s : Sense) (n : ℕ) → Good t → Good (finishOf t arrival status s n .table)
+FinishKeeps = (t : Table) (arrival : ℕ) (status : StatusByte) (s : Sense) (transferred n : ℕ) → Good t → Good (finishOf t arrival status s transferred n .table)
 
 abbrev pub ResetKeeps : Type 0
 ResetKeeps = (t : Table) → Good t → Good (totalResetOf t .table)

@@ -18,7 +18,7 @@ OneWithReply defined buf = (o p : Outcome) (k l : List ℕ) → Answers defined 
 pub record AnswersAreOne : Type 0 where
   pub message : (t : Table) (m buf : List ℕ) → OneWithReply (messageOf t m (length buf)) buf
   pub start : (t : Table) (unit : ℕ) → One (startOf t unit)
-  pub finish : (t : Table) (arrival : ℕ) (status : StatusByte) (s : Sense) (buf : List ℕ) → OneWithReply (finishOf t arrival status s (length buf)) buf
+  pub finish : (t : Table) (arrival : ℕ) (status : StatusByte) (s : Sense) (transferred : ℕ) (buf : List ℕ) → OneWithReply (finishOf t arrival status s transferred (length buf)) buf
   pub total-reset : (t : Table) → One (totalResetOf t)
   pub setup : (ids : List ℕ) (attached first : ℕ) → One (setupOf ids attached first)
   pub command-block : (m : List ℕ) (a : Answer) → One (handedOver m a)

@@ -1,11 +1,9 @@
 // The five calls, and the part of a message that is its command block.
 ghost use mathlib.Core.Path.{_≡_};
 ghost use lib.ListN.{length};
-ghost use Rattle.engine.specs.Calls;
-ghost use Rattle.engine.specs.Calls.{replyPath, heardOf, planFor, carriedOut, messageOf, choiceOn, startOf, mayFinish, sentSense, finishOf, totalResetOf, setupOf, replied, Answers, handedOver};
+ghost use Rattle.engine.specs.Calls.{replyPath, heardOf, senderOf, listedPlan, messageOf, mayGo, rejected, startVerdict, startOf, mayFinish, sentSense, finishVerdict, finishOf, totalResetOf, setupOf, replied, Answers, handedOver};
 ghost use Rattle.wire.specs.Paper.{statusByte, sense};
-ghost use Rattle.table.specs.Tables.{anyLive, pickOf};
-ghost use Rattle.task.specs.Selections.{runningOn, runningAs};
+ghost use Rattle.task.specs.Selections.{runningOn};
 use crate::Outcome;
 use plan::Answer;
 use plan::Asked;
@@ -13,11 +11,14 @@ use plan::Deed;
 use plan::Plan;
 use plan::What;
 use reply::Reply;
+use rules::rules::Seen;
+use rules::rules::look;
+use table::Aca;
+use table::RECORDS;
 use table::Table;
+use table::changes::running_as;
 use task::Kind;
 use task::Phase;
-use task::scan::Pick;
-use task::select::Number;
 use task::select::Place;
 use task::select::Selection;
 use task::select::Sort;
@@ -26,16 +27,6 @@ use wire::codes::REPLY_ROOM;
 use wire::codes::Refusal;
 use wire::codes::Sense;
 use wire::codes::StatusByte;
-
-fn refuse(t: Table, n: Refusal) -> Outcome
-    ensures { λ o. ⌜ o ≡ Calls.refused t n ⌝ }
-{
-    Outcome {
-        table: t,
-        answer: Answer::Refused(n),
-        to: 0,
-    }
-}
 
 // The path that a reply goes to, and 0 where the answer is none.
 fn reply_path(a: Answer, path: u32) -> u32
@@ -50,7 +41,13 @@ fn reply_path(a: Answer, path: u32) -> u32
             status: _,
             sense: _,
         } => path,
-        Answer::Started(_) => 0,
+        Answer::Invalid { tag: _ } => path,
+        Answer::Started {
+            offset: _,
+            arrival: _,
+        } => 0,
+        Answer::Confirmed(_) => 0,
+        Answer::Restarted(_) => 0,
         Answer::Reset => 0,
         Answer::Refused(_) => 0,
     }
@@ -69,23 +66,18 @@ fn heard(sound: bool, room: usize, m: &[u8]) -> Asked
     plan::ask(wire::message::read(m))
 }
 
-// The plan for what was heard: refusal 3 for a path that is not listed, then by rules and orders.
-fn plan_for(t: Table, m: &[u8], path: u32, tag: u16, w: What) -> Plan
-    ensures { λ r. ⌜ r ≡ planFor t (now (m .entry)) path tag w ⌝ }
+// The id of the path that a message is from; 0 where nothing is heard.
+fn sender_of(a: Asked) -> u32
+    ensures { λ r. ⌜ r ≡ senderOf a ⌝ }
 {
-    let at = t.path_of(path);
-    if at >= 8 {
-        return plan::refuse(Refusal::UNKNOWN_PATH);
+    match a {
+        Asked::Unread(_) => 0,
+        Asked::By {
+            path,
+            tag: _,
+            what: _,
+        } => path,
     }
-    let p = at as u8;
-    let f = rules::rules::look(
-        t,
-        p,
-        plan::tag_asked(tag, w),
-        plan::unit_asked(w),
-        plan::clears_set(w),
-    );
-    plan::find_plan(f, t.next, p, tag, m, w)
 }
 
 // The reply that an answer asks for.
@@ -101,16 +93,46 @@ fn reply_to(a: Answer, reply: &mut [u8])
         Answer::Status { tag, status, sense } => {
             reply::write(Reply::Status { tag, status, sense }, reply);
         }
-        Answer::Started(_) => {}
+        Answer::Invalid { tag } => {
+            reply::write(Reply::Invalid { tag }, reply);
+        }
+        Answer::Started {
+            offset: _,
+            arrival: _,
+        } => {}
+        Answer::Confirmed(_) => {}
+        Answer::Restarted(_) => {}
         Answer::Reset => {}
         Answer::Refused(_) => {}
     }
 }
 
-// The plan, carried out on the one table: paths and units in place, then the records.
-fn carry_out(mut t: Table, plan: Plan) -> Table
-    ensures { λ r. ⌜ r ≡ carriedOut t plan ⌝ }
+// The plan for what the path at p asks: refusal 3 where it is not listed, then by rules, orders and confirmations.
+fn plan_for(s: Seen, next: u64, p: u8, tag: u16, m: &[u8], w: What) -> Plan
+    ensures { λ r. ⌜ r ≡ listedPlan s next p tag (now (m .entry)) w ⌝ }
 {
+    if p >= 8 {
+        return plan::refuse(Refusal::UNKNOWN_PATH);
+    }
+    plan::find_plan(s, next, p, tag, m, w)
+}
+
+// A message received: the next table, the answer, and the reply in the buffer. The plan is found first, then carried out on the one table:
+// paths and units in place, then the records.
+pub fn message(mut t: Table, m: &[u8], reply: &mut [u8]) -> Outcome
+    ensures { λ o. ⌜ Answers (messageOf t (now (m .entry)) (length (now (reply .entry)))) (now (reply .entry)) o (now (reply .exit)) ⌝ }
+{
+    let asked = heard(t.sound(), reply.len(), m);
+    let plan = match asked {
+        Asked::Unread(n) => plan::refuse(n),
+        Asked::By { path, tag, what } => {
+            let p = t.path_of(path);
+            let named = plan::tag_asked(tag, what);
+            let seen = look(t, p, named, plan::unit_asked(what), plan::clears_set(what));
+            plan_for(seen, t.next, p, tag, m, what)
+        }
+    };
+    let answer = plan.answer;
     let change = plan.change;
     let deed = plan.deed;
     let paths = t.paths;
@@ -120,39 +142,41 @@ fn carry_out(mut t: Table, plan: Plan) -> Table
     let free = plan::change_units(units, change);
     t.units = free;
     match deed {
-        Deed::Nothing => t,
+        Deed::Nothing => {}
         Deed::Accept {
             path,
             tag,
             lun,
             kind,
-        } => t.accept(path, tag, lun, kind),
-        Deed::End(s) => t.end(s),
+            confirm,
+        } => t = t.accept(path, tag, lun, kind, confirm),
+        Deed::End(s) => t = t.end(s),
+        Deed::Restart { place, offset } => t = t.restart(place, offset),
+    }
+    // The reply goes by a copy of the answer, so that the outcome is made where it is handed back.
+    let said = plan.answer;
+    reply_to(said, reply);
+    Outcome {
+        table: t,
+        answer,
+        to: reply_path(answer, sender_of(asked)),
     }
 }
 
-// A message received: the next table, the answer, and the reply in the buffer.
-pub fn message(t: Table, m: &[u8], reply: &mut [u8]) -> Outcome
-    ensures { λ o. ⌜ Answers (messageOf t (now (m .entry)) (length (now (reply .entry)))) (now (reply .entry)) o (now (reply .exit)) ⌝ }
+// What runs on the unit, and what may go next there: under ACA only the ACA task.
+fn running_on(unit: u8) -> Selection
+    ensures { λ r. ⌜ r ≡ runningOn unit ⌝ }
 {
-    match heard(t.sound(), reply.len(), m) {
-        Asked::Unread(n) => refuse(t, n),
-        Asked::By { path, tag, what } => {
-            let plan = plan_for(t, m, path, tag, what);
-            let answer = plan.answer;
-            reply_to(answer, reply);
-            Outcome {
-                table: carry_out(t, plan),
-                answer,
-                to: reply_path(answer, path),
-            }
-        }
+    let all = Selection::ALL;
+    Selection {
+        place: Place::On(unit),
+        stage: Stage::Now(Phase::Running),
+        ..all
     }
 }
 
-// What may go next on the unit: under ACA only the ACA task.
-fn choose(t: Table, unit: u8) -> Pick
-    ensures { λ r. ⌜ r ≡ choiceOn t unit ⌝ }
+fn may_go(aca: Aca, unit: u8) -> Selection
+    ensures { λ r. ⌜ r ≡ mayGo aca unit ⌝ }
 {
     let all = Selection::ALL;
     let waiting = Selection {
@@ -160,51 +184,74 @@ fn choose(t: Table, unit: u8) -> Pick
         stage: Stage::Now(Phase::Waiting),
         ..all
     };
-    let u = t.unit_at(unit);
-    let aca = u.aca;
     if rules::rules::has_aca(aca) {
-        return t.pick(Selection {
+        return Selection {
             sort: Sort::Just(Kind::Aca),
             ..waiting
-        });
+        };
     }
-    t.pick(waiting)
+    waiting
 }
 
-// Whether a task runs on the unit.
-fn is_busy(t: Table, unit: u8) -> bool
-    ensures { λ r. ⌜ r ≡ anyLive t (runningOn unit) ⌝ }
+// What a call of the device comes to: the answer, the record that it is about, or 64, and the id of the path that the reply goes to.
+pub struct Verdict {
+    pub answer: Answer,
+    pub place: usize,
+    pub to: u32,
+}
+
+fn reject(n: Refusal) -> Verdict
+    ensures { λ r. ⌜ r ≡ rejected n ⌝ }
 {
-    let all = Selection::ALL;
-    t.any(Selection {
-        place: Place::On(unit),
-        stage: Stage::Now(Phase::Running),
-        ..all
-    })
+    Verdict {
+        answer: Answer::Refused(n),
+        place: RECORDS,
+        to: 0,
+    }
 }
 
-// The unit is free: the task that goes next runs.
-pub fn start(t: Table, unit: u8) -> Outcome
-    ensures { λ o. ⌜ o ≡ startOf t unit ⌝ }
+// The task that goes next on the unit, or why none does.
+fn choose(t: Table, unit: u8) -> Verdict
+    ensures { λ r. ⌜ r ≡ startVerdict t unit ⌝ }
 {
     if !t.sound() {
-        return refuse(t, Refusal::NOT_SOUND);
+        return reject(Refusal::NOT_SOUND);
     }
     if !t.is_attached(unit) {
-        return refuse(t, Refusal::NOT_ATTACHED);
+        return reject(Refusal::NOT_ATTACHED);
     }
-    if is_busy(t, unit) {
-        return refuse(t, Refusal::UNIT_BUSY);
+    let running = t.pick(running_on(unit));
+    if running.found {
+        return reject(Refusal::UNIT_BUSY);
     }
-    let p = choose(t, unit);
+    let u = t.unit_at(unit);
+    let aca = u.aca;
+    let p = t.pick(may_go(aca, unit));
     if !p.found {
-        return refuse(t, Refusal::NOTHING_TO_START);
+        return reject(Refusal::NOTHING_TO_START);
     }
-    let next = t.start(p.at);
-    Outcome {
-        table: next,
-        answer: Answer::Started(p.arrival),
+    let a = p.task;
+    Verdict {
+        answer: Answer::Started {
+            offset: a.offset,
+            arrival: a.arrival,
+        },
+        place: p.at,
         to: 0,
+    }
+}
+
+// The unit is free: the task that goes next runs. The answer has its arrival number and the offset to start at.
+pub fn start(mut t: Table, unit: u8) -> Outcome
+    ensures { λ o. ⌜ o ≡ startOf t unit ⌝ }
+{
+    let v = choose(t, unit);
+    let answer = v.answer;
+    t = t.start(v.place);
+    Outcome {
+        table: t,
+        answer,
+        to: v.to,
     }
 }
 
@@ -238,83 +285,79 @@ fn sent_sense(status: StatusByte, sense: Sense) -> Sense
     Sense::NONE
 }
 
-fn find_running(t: Table, arrival: u64) -> Pick
-    ensures { λ r. ⌜ r ≡ pickOf t (runningAs arrival) ⌝ }
-{
-    let all = Selection::ALL;
-    t.pick(Selection {
-        number: Number::Exactly(arrival),
-        stage: Stage::Now(Phase::Running),
-        ..all
-    })
-}
-
-// What a finish comes to, for a reply buffer of n bytes.
-fn finished(t: Table, arrival: u64, status: StatusByte, sense: Sense, n: usize) -> Outcome
-    ensures { λ o. ⌜ o ≡ finishOf t arrival status sense n ⌝ }
+// The task that the device has finished, with the STATUS to send, or why there is none; for a reply buffer of n bytes.
+fn judge(t: Table, arrival: u64, status: StatusByte, sense: Sense, n: usize) -> Verdict
+    ensures { λ r. ⌜ r ≡ finishVerdict t arrival status sense n ⌝ }
 {
     if !t.sound() {
-        return refuse(t, Refusal::NOT_SOUND);
+        return reject(Refusal::NOT_SOUND);
     }
     if n < REPLY_ROOM {
-        return refuse(t, Refusal::SMALL_BUFFER);
+        return reject(Refusal::SMALL_BUFFER);
     }
     if !may_finish(status, sense) {
-        return refuse(t, Refusal::BAD_STATUS);
+        return reject(Refusal::BAD_STATUS);
     }
-    let p = find_running(t, arrival);
+    let p = t.pick(running_as(arrival));
     if !p.found {
-        return refuse(t, Refusal::NOT_RUNNING);
+        return reject(Refusal::NOT_RUNNING);
     }
-    let a = t.task_at(p.at);
+    let a = p.task;
     let sender = t.path_at(a.path as usize);
-    let failed = status.0 == StatusByte::CHECK_CONDITION.0;
-    let next = t.finish(a, failed);
-    Outcome {
-        table: next,
+    Verdict {
         answer: Answer::Status {
             tag: a.tag,
             status,
             sense: sent_sense(status, sense),
         },
+        place: p.at,
         to: sender.id,
     }
 }
 
-// The device has finished the running task of an arrival number.
+// The device has finished the running task of an arrival number, after so many bytes: it ends, or with CONFIRM waits to be confirmed.
 pub fn finish(
-    t: Table,
+    mut t: Table,
     arrival: u64,
     status: u8,
     key: u8,
     code: u8,
     qualifier: u8,
+    transferred: u64,
     reply: &mut [u8],
 ) -> Outcome
-    ensures { λ o. ⌜ Answers (finishOf t arrival (statusByte status) (sense key code qualifier) (length (now (reply .entry)))) (now (reply .entry)) o (now (reply .exit)) ⌝ }
+    ensures { λ o. ⌜ Answers (finishOf t arrival (statusByte status) (sense key code qualifier) transferred (length (now (reply .entry)))) (now (reply .entry)) o (now (reply .exit)) ⌝ }
 {
     let s = Sense {
         key,
         code,
         qualifier,
     };
-    let o = finished(t, arrival, StatusByte(status), s, reply.len());
-    let a = o.answer;
-    reply_to(a, reply);
-    o
+    let v = judge(t, arrival, StatusByte(status), s, reply.len());
+    let answer = v.answer;
+    let failed = status == StatusByte::CHECK_CONDITION.0;
+    t = t.finish(v.place, failed, transferred);
+    let said = v.answer;
+    reply_to(said, reply);
+    Outcome {
+        table: t,
+        answer,
+        to: v.to,
+    }
 }
 
 // Everything is reset; arrival numbers go on.
-pub fn total_reset(t: Table) -> Outcome
+pub fn total_reset(mut t: Table) -> Outcome
     ensures { λ o. ⌜ o ≡ totalResetOf t ⌝ }
 {
-    if !t.sound() {
-        return refuse(t, Refusal::NOT_SOUND);
+    let mut answer = Answer::Refused(Refusal::NOT_SOUND);
+    if t.sound() {
+        t = t.reset();
+        answer = Answer::Reset;
     }
-    let next = t.reset();
     Outcome {
-        table: next,
-        answer: Answer::Reset,
+        table: t,
+        answer,
         to: 0,
     }
 }
@@ -324,12 +367,13 @@ pub fn setup(ids: &[u32], attached: u8, first: u64) -> Outcome
     ensures { λ o. ⌜ o ≡ setupOf (now (ids .entry)) attached first ⌝ }
 {
     let t = Table::new(ids, attached, first);
+    let mut answer = Answer::Ready;
     if table::setup::bad_list(ids) {
-        return refuse(t, Refusal::BAD_PATHS);
+        answer = Answer::Refused(Refusal::BAD_PATHS);
     }
     Outcome {
         table: t,
-        answer: Answer::Ready,
+        answer,
         to: 0,
     }
 }
@@ -347,7 +391,13 @@ pub fn command_block(m: &[u8], a: Answer) -> &[u8]
             status: _,
             sense: _,
         } => &m[..0],
-        Answer::Started(_) => &m[..0],
+        Answer::Invalid { tag: _ } => &m[..0],
+        Answer::Started {
+            offset: _,
+            arrival: _,
+        } => &m[..0],
+        Answer::Confirmed(_) => &m[..0],
+        Answer::Restarted(_) => &m[..0],
         Answer::Reset => &m[..0],
         Answer::Refused(_) => &m[..0],
     }

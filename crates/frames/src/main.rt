@@ -19,7 +19,16 @@ fn calls(b: [u8; 64], reply: &mut [u8; 64]) -> Table {
     let o = setup(&[b[0] as u32, b[1] as u32], b[2], wide(b[3]));
     let o = message(o.table, &b, reply);
     let o = start(o.table, b[4]);
-    let o = finish(o.table, wide(b[5]), b[6], b[7], b[8], b[9], reply);
+    let o = finish(
+        o.table,
+        wide(b[5]),
+        b[6],
+        b[7],
+        b[8],
+        b[9],
+        wide(b[19]),
+        reply,
+    );
     let o = total_reset(o.table);
     o.table
 }
@@ -30,7 +39,16 @@ fn calls_again(b: [u8; 64], reply: &mut [u8; 64]) -> Table {
     let o = total_reset(o.table);
     let o = message(o.table, &b, reply);
     let o = start(o.table, b[13]);
-    let o = finish(o.table, wide(b[14]), b[15], b[16], b[17], b[18], reply);
+    let o = finish(
+        o.table,
+        wide(b[14]),
+        b[15],
+        b[16],
+        b[17],
+        b[18],
+        wide(b[20]),
+        reply,
+    );
     o.table
 }
 

@@ -1,32 +1,32 @@
 -- A ledger and a table that are tied agree, as demand 3 asks. Assumes nothing.
 use Prim.Native.Nat.{ℕ, suc, _+_, _-_, _<_, _≤_}
 use mathlib.Core.Path.{_≡_, refl, sym, ap, ap₂, _∙_}
-use mathlib.Core.Bool.{Bool, true, false, cond, _&&_, _||_}
+use mathlib.Core.Bool.{Bool, true, false, cond, _&&_}
 use mathlib.Core.List.{List, [], _∷_}
 use mathlib.Core.Logic.{inl, inr}
 use mathlib.Core.Option.{some}
 use native.Mathlib.Omega.{arith}
-use lib.ListN.{length}
+use lib.ListN.{length, getD}
 use lib.Dec.{eqb}
 use borrow.Author.Tests.{eq-eqb, eqb-true}
 use Rattle.task.specs.Index.{one}
 use Rattle.task.specs.Tasks.{kindNumber, phaseNumber}
-use Rattle.task.specs.Selections.{picks}
 use Rattle.task.specs.declared.Kind.{Kind}
 use Rattle.task.specs.declared.Kind.the-variants as kind
 use Rattle.task.specs.declared.Phase.{Phase}
 use Rattle.task.specs.declared.Phase.the-variants as phase
 use Rattle.task.specs.declared.Task.{Task}
-use Rattle.task.proofs.Ways.{both, cond-ind}
+use Rattle.task.proofs.Ways.{never, both}
 use Rattle.task.proofs.Places.{lt-or-le}
 use Rattle.table.specs.declared.Table.{Table}
 use Rattle.table.proofs.Weights.{ones-are-live}
-use Rattle.history.specs.Trace.{Told, nth, Label, byStatus, byTotalReset, byOrder, resets, isStatus, isManagement, isReset, Effect, Nothing, Accepts, Starts, Ends, did}
-use Rattle.history.specs.Ledger.{Ending, Entry, isEmpty, isOpen, newEntry, running, marked, noted, ledgerFrom, ledger, total, countOf, isFrom, acceptsFrom, acceptedFrom}
+use Rattle.history.specs.Trace.{Told, nth, Label, byStatus, byTotalReset, byOrder, resets, isStatus, isManagement, isReset, Effect, Nothing, Accepts, Starts, Finishes, Restarts, Ends, did}
+use Rattle.history.specs.Ledger.{Ending, Entry, isEmpty, isOpen, meeting, noted, ledgerFrom, ledger, total, countOf, isFrom, acceptsFrom, acceptedFrom}
 use Rattle.history.specs.Demand.{accountedFor, Agrees}
-use Rattle.history.proofs.Totals.{total-ext, total-le, total-add, total-append, total-map, total-at, total-two, total-find, weight-at, weight-find}
+use Rattle.history.proofs.Totals.{total-ext, total-le, total-add, total-at, total-two, total-find, weight-at, weight-find}
+use Rattle.history.proofs.Fates.{meeting-ways}
 use Rattle.history.proofs.Traces.{came-in, caused-in, entered-in}
-use Rattle.history.proofs.Kept.{Tied, openWeight, hasNumber, extra}
+use Rattle.history.proofs.Kept.{Tied, openWeight, hasNumber, extra, added, one-true, noted-total}
 
 -- ---- two tasks, field by field
 
@@ -41,48 +41,67 @@ kind-back kind.Ordered = refl
 kind-back kind.Simple = refl
 
 phaseFrom : ℕ → Phase
-phaseFrom n = cond (eqb n 0) phase.Waiting phase.Running
+phaseFrom n = cond (eqb n 0) phase.Waiting (cond (eqb n 1) phase.Running phase.Unconfirmed)
 
 phase-back : (p : Phase) → phaseFrom (phaseNumber p) ≡ p
 unfolding phaseFrom
 phase-back phase.Waiting = refl
 phase-back phase.Running = refl
+phase-back phase.Unconfirmed = refl
+
+confirm-back : (b : Bool) → eqb (one b) 1 ≡ b
+confirm-back true = refl
+confirm-back false = refl
+
+abbrev fields : Task → List ℕ
+fields a =
+    a .arrival ∷ a .transferred ∷ a .offset ∷ a .tag ∷ a .path ∷ a .unit ∷ kindNumber (a .kind) ∷ phaseNumber (a .phase) ∷ one (a .confirm) ∷ []
+
+fields-eq : (a b : Task) → fields a ≡ fields b → a ≡ b
+fields-eq a b e =
+    let at : (k : ℕ) → getD (fields a) k 0 ≡ getD (fields b) k 0 = λ k. ap (λ (l : List ℕ). getD l k 0) e in
+    let k : a .kind ≡ b .kind = sym (kind-back (a .kind)) ∙ ap kindFrom (at 6) ∙ kind-back (b .kind) in
+    let p : a .phase ≡ b .phase = sym (phase-back (a .phase)) ∙ ap phaseFrom (at 7) ∙ phase-back (b .phase) in
+    let c : a .confirm ≡ b .confirm = sym (confirm-back (a .confirm)) ∙ ap (λ (n : ℕ). eqb n 1) (at 8) ∙ confirm-back (b .confirm) in
+    λ i.
+    record {
+      arrival = at 0 i;
+      transferred = at 1 i;
+      offset = at 2 i;
+      tag = at 3 i;
+      path = at 4 i;
+      unit = at 5 i;
+      kind = k i;
+      phase = p i;
+      confirm = c i;
+    }
+
+sameList : List ℕ → List ℕ → Bool
+sameList [] [] = true
+sameList [] (y ∷ m) = false
+sameList (x ∷ l) [] = false
+sameList (x ∷ l) (y ∷ m) = eqb x y && sameList l m
+
+list-eq : (l m : List ℕ) → sameList l m ≡ true → l ≡ m
+unfolding sameList
+list-eq [] [] e = refl
+list-eq [] (y ∷ m) e = absurd (never e refl)
+list-eq (x ∷ l) [] e = absurd (never e refl)
+list-eq (x ∷ l) (y ∷ m) e = let q = both (eqb x y) (sameList l m) e in ap₂ _∷_ (eqb-true x y (q .0)) (list-eq l m (q .1))
+
+list-refl : (l : List ℕ) → sameList l l ≡ true
+unfolding sameList
+list-refl [] = refl
+list-refl (x ∷ l) = rw (eq-eqb x x refl) (list-refl l)
 
 abbrev sameTask : Task → Task → Bool
-sameTask a b =
-    eqb (a .arrival) (b .arrival) && (eqb (a .tag) (b .tag) && (eqb (a .path) (b .path) && (eqb (a .unit) (b .unit)
-    && (eqb (kindNumber (a .kind)) (kindNumber (b .kind)) && eqb (phaseNumber (a .phase)) (phaseNumber (b .phase))))))
+sameTask a b = sameList (fields a) (fields b)
 
 same-eq : (a b : Task) → sameTask a b ≡ true → a ≡ b
-same-eq a b e =
-    let q = both (eqb (a .arrival) (b .arrival)) _ e in
-    let r = both (eqb (a .tag) (b .tag)) _ (q .1) in
-    let s = both (eqb (a .path) (b .path)) _ (r .1) in
-    let u = both (eqb (a .unit) (b .unit)) _ (s .1) in
-    let v = both (eqb (kindNumber (a .kind)) (kindNumber (b .kind))) _ (u .1) in
-    let k : a .kind ≡ b .kind = sym (kind-back (a .kind)) ∙ ap kindFrom (eqb-true _ _ (v .0)) ∙ kind-back (b .kind) in
-    let p : a .phase ≡ b .phase = sym (phase-back (a .phase)) ∙ ap phaseFrom (eqb-true _ _ (v .1)) ∙ phase-back (b .phase) in
-    let arrival : a .arrival ≡ b .arrival = eqb-true _ _ (q .0) in
-    let tag : a .tag ≡ b .tag = eqb-true _ _ (r .0) in
-    let path : a .path ≡ b .path = eqb-true _ _ (s .0) in
-    let unit : a .unit ≡ b .unit = eqb-true _ _ (u .0) in
-    λ i. record { arrival = arrival i; tag = tag i; path = path i; unit = unit i; kind = k i; phase = p i }
+same-eq a b e = fields-eq a b (list-eq (fields a) (fields b) e)
 
 same-refl : (a : Task) → sameTask a a ≡ true
-same-refl a =
-    rw (
-      eq-eqb (a .arrival) (a .arrival) refl,
-      eq-eqb (a .tag) (a .tag) refl,
-      eq-eqb (a .path) (a .path) refl,
-      eq-eqb (a .unit) (a .unit) refl,
-      eq-eqb (kindNumber (a .kind)) (kindNumber (a .kind)) refl,
-      eq-eqb (phaseNumber (a .phase)) (phaseNumber (a .phase)) refl,
-    )
-    refl
-
-one-true : (b : Bool) → 1 ≤ one b → b ≡ true
-one-true true h = refl
-one-true false h = absurd (omega arith)
+same-refl a = list-refl (fields a)
 
 open-true : (o b : Bool) → 1 ≤ cond o (one b) 0 → (o ≡ true) × (b ≡ true)
 open-true true b h = (refl, one-true b h)
@@ -94,26 +113,24 @@ open-one false = refl
 
 -- ---- the commands of a path: as many entries as the trace accepts
 
-kept-path : (n p : ℕ) (e : Entry) → isFrom p (running n e .task) ≡ isFrom p (e .task)
-unfolding running
-kept-path n p e = cond-ind (λ (x : Entry). isFrom p (x .task) ≡ isFrom p (e .task)) (isOpen e && eqb (e .task .arrival) n) (λ _. refl) (λ _. refl)
+accepted-path : (p : ℕ) (effect : Effect) → added effect (λ a. one (isFrom p a)) ≡ one (acceptsFrom p effect)
+accepted-path p Nothing = refl
+accepted-path p (Accepts a) = refl
+accepted-path p (Starts arrival) = refl
+accepted-path p (Finishes arrival transferred) = refl
+accepted-path p (Restarts s offset) = refl
+accepted-path p (Ends s how) = refl
 
 noted-path : (n p : ℕ) (effect : Effect) (l : List Entry)
     → countOf (λ e. isFrom p (e .task)) (noted n effect l) ≡ countOf (λ e. isFrom p (e .task)) l + one (acceptsFrom p effect)
-unfolding marked
-noted-path n p Nothing l = omega arith
-noted-path n p (Accepts a) l = total-append (λ e. one (isFrom p (e .task))) l (newEntry n a)
-noted-path n p (Starts arrival) l =
-    omega (arith, total-map (λ e. one (isFrom p (e .task))) (running arrival) l, total-ext (λ e. one (isFrom p (running arrival e .task))) (λ e. one (isFrom p (e .task))) (λ e. ap one (kept-path arrival p e)) l)
-noted-path n p (Ends s how) l =
+noted-path n p effect l =
+    let from : Entry → ℕ = λ e. one (isFrom p (e .task)) in
     omega (
       arith,
-      total-map (λ e. one (isFrom p (e .task))) (marked n s how) l,
-      total-ext (λ e. one (isFrom p (marked n s how e .task))) (λ e. one (isFrom p (e .task))) (λ e. ap one (stays e)) l,
+      noted-total from n effect l,
+      total-ext (λ e. from (meeting n effect e)) from (λ e. meeting-ways (λ (x : Entry). from x ≡ from e) n effect e refl (λ _ _ _ _. refl) (λ _ _. refl)) l,
+      accepted-path p effect,
     )
-  where
-    stays : (e : Entry) → isFrom p (marked n s how e .task) ≡ isFrom p (e .task)
-    stays e = cond-ind (λ (x : Entry). isFrom p (x .task) ≡ isFrom p (e .task)) (picks s (e .task) && (isOpen e || isStatus how)) (λ _. refl) (λ _. refl)
 
 entries : (ids : List ℕ) (p n : ℕ) (l : List Entry) (h : List Told)
     → countOf (λ e. isFrom p (e .task)) (ledgerFrom ids n l h) ≡ countOf (λ e. isFrom p (e .task)) l + acceptedFrom ids p h

@@ -4,46 +4,47 @@ use mathlib.Core.Path.{_≡_, refl, sym, ap, _∙_, subst}
 use mathlib.Core.Bool.{Bool, true, false, cond, _&&_}
 use mathlib.Core.List.{List}
 use mathlib.Core.Logic.{inl, inr}
-use mathlib.Core.Option.{some}
+use mathlib.Core.Option.{none, some}
 use native.Mathlib.Omega.{arith}
 use lib.ListN.{length, getD}
 use lib.Dec.{eqb, ltb}
-use borrow.Author.Tests.{ltb-true, lt-ltb, eqb-true}
+use borrow.Author.Tests.{ltb-true, lt-ltb, eq-eqb, ne-eqb, eqb-true}
 use Rattle.wire.specs.Paper
 use Rattle.wire.specs.Messages.{readOf}
 use Rattle.wire.specs.declared.codes.Refusal.{Refusal}
 use Rattle.wire.specs.declared.codes.StatusByte.{StatusByte}
 use Rattle.wire.specs.declared.codes.Sense.{Sense}
 use Rattle.wire.specs.declared.message.Flags.{Flags}
-use Rattle.task.specs.Selections.{picks, everyTask, runningAs}
+use Rattle.task.specs.Tasks.{runs, awaits, restarts}
+use Rattle.task.specs.Selections.{picks, everyTask, named, numberedAs, runningAs}
 use Rattle.task.specs.declared.Kind.{Kind}
 use Rattle.task.specs.declared.Task.{Task}
 use Rattle.task.specs.declared.select.Selection.{Selection}
 use Rattle.task.proofs.Ways.{either-way, never, both, cond-ind}
 use Rattle.task.proofs.Places.{first-picks, first-before, first-is}
 use Rattle.task.proofs.Selecting.{meets, picks-every}
-use Rattle.table.specs.Tables.{pathAt, taskAt, hasId, placeOf, pathOf, hasRoom, pickOf, newTask, accepted, endedBy, started, finished, resetOf, withPaths, withUnits}
+use Rattle.table.specs.Tables.{pathAt, hasId, placeOf, pathOf, hasRoom, pickOf, newTask, accepted, endedBy, alteredAt, started, restarted, finished, resetOf, withPaths, withUnits}
 use Rattle.table.specs.Sound.{Shaped}
-use Rattle.table.specs.View.{at, weight}
+use Rattle.table.specs.View.{at, weightAt, weight}
 use Rattle.table.specs.Promises.{Good}
 use Rattle.table.specs.declared.Path as path
 use Rattle.table.specs.declared.Unit as unit
 use Rattle.table.specs.declared.Table.{Table}
-use Rattle.table.proofs.Views.{OnlyTasks, Found, idsOf, ids-at, ids-length, ids-marked, ids-attended, ids-alarmed, ids-warned, reset-ids, accepted-put, accepted-only, ended-only, ended-next, ended-paths, ended-units, finished-units, started-only, started-next, pick-stands, pick-at}
+use Rattle.table.proofs.Views.{OnlyTasks, Found, not-both, live-at, idsOf, ids-at, ids-length, ids-marked, ids-attended, ids-alarmed, ids-warned, reset-ids, accepted-put, accepted-only, ended-only, ended-next, ended-paths, ended-units, altered-only, altered-next, finished-ways, pick-at}
 use Rattle.table.proofs.Weights.{weight-same, accept-weighs, end-weighs, reset-weighs}
 use Rattle.rules.specs.Management.{endsOf, orderCode, orderPaths}
-use Rattle.rules.specs.Rules.{factsOf, deciding}
+use Rattle.rules.specs.Rules.{factsOf, seenOf, deciding}
 use Rattle.rules.specs.declared.rules.Facts.{Facts}
 use Rattle.rules.specs.declared.rules.Mood.{Mood}
 use Rattle.rules.specs.declared.rules.Mood.the-variants.{Stay, Mark, Unmark, Attend}
 use Rattle.rules.specs.declared.rules.Ruling.{Ruling}
-use Rattle.rules.specs.declared.rules.Ruling.the-variants.{Refuse, Respond, Report, Accept}
+use Rattle.rules.specs.declared.rules.Ruling.the-variants.{Refuse, Respond, Report, Invalid, Accept}
 use Rattle.rules.specs.declared.manage.Order.{Order}
 use Rattle.rules.specs.declared.manage.Order.the-variants.{AbortTask, AbortTaskSet, ClearTaskSet, ClearAca, UnitReset, TargetReset}
-use Rattle.plan.specs.Plans.{askedOf, kindOf, ruled, orderPlan, inMood, pathsAfter, unitsAfter}
-use Rattle.engine.specs.Calls.{refused, withParts, acted, carriedOut, planAt, messageOf, choiceOn, startOf, runningTask, finishOf, totalResetOf}
+use Rattle.plan.specs.Plans.{askedOf, kindOf, ruled, orderPlan, isAwaited, confirmPlan, inMood, pathsAfter, unitsAfter}
+use Rattle.engine.specs.Calls.{refused, withParts, acted, carriedOut, planAt, messageOf, choiceOn, startOf, finishOf, totalResetOf}
 use Rattle.plan.specs.declared.What.{What}
-use Rattle.plan.specs.declared.What.the-variants.{Command, Manage}
+use Rattle.plan.specs.declared.What.the-variants.{Command, Manage, Confirm}
 use Rattle.plan.specs.declared.Asked.{Asked}
 use Rattle.plan.specs.declared.Asked.the-variants.{By, Unread}
 use Rattle.plan.specs.declared.Change.{Change}
@@ -51,11 +52,13 @@ use Rattle.plan.specs.declared.Change.the-variants as change
 use Rattle.plan.specs.declared.Plan.{Plan}
 use Rattle.plan.specs.declared.Answer.the-variants as answer
 use Rattle.engine.specs.declared.Outcome.{Outcome}
-use Rattle.engine.proofs.Outcomes.{each-message, each-start, each-finish, each-reset}
+use Rattle.engine.proofs.Outcomes.{each-message, each-start, each-finish, each-reset, each-confirm}
 use Rattle.engine.proofs.Keeps.{accept-has-room}
-use Rattle.history.specs.Trace.{Event, Message, Start, Finish, TotalReset, Label, byStatus, byTotalReset, byOrder, Effect, Nothing, Accepts, Starts, Ends, placeIn, numbered, commandEffect, orderEffect, messageEffect, effectOf}
-use Rattle.history.proofs.Totals.{weight-live, weight-zero, started-weighs}
-use Rattle.history.proofs.Kept.{Sure, Done}
+use Rattle.history.specs.Trace.{Event, Message, Start, Finish, TotalReset, Label, byStatus, byTotalReset, byOrder, isStatus, Effect, Nothing, Accepts, Starts, Finishes, Restarts, Ends, Fate, stays, becomes, ended, fateOf, placeIn, commandEffect, orderEffect, confirmEffect, messageEffect, effectOf}
+use Rattle.history.proofs.Nth.{same-element}
+use Rattle.history.proofs.Totals.{weight-live, weight-zero, altered-weighs}
+use Rattle.history.proofs.Fates.{taken}
+use Rattle.history.proofs.Kept.{endsByStatus, fated, weighed, Sure, Done}
 
 -- ---- what a change of paths and units leaves
 
@@ -78,10 +81,46 @@ ids-after l count change.Nothing = refl
 ids-after l count (change.Sender p mood) = ids-mood l p mood
 ids-after l count (change.Besides losers o) = ids-order l count losers o
 
+-- ---- what each effect is sure of
+
+-- it accepts nothing, and ends nothing by status
+calm : (effect : Effect) (t : Table) → taken effect ≡ none → ((b : Task) → endsByStatus (fateOf effect b) ≡ false) → Sure effect t
+calm effect t n q = record { next = λ a e. absurd (not-both n e); live = λ b e. absurd (never e (q b)) }
+
+module _ (t : Table) where
+  sure-nothing : Sure Nothing t
+  unfolding fateOf
+  sure-nothing = calm Nothing t refl (λ _. refl)
+
+  sure-accepts : (p tag lun : ℕ) (kind : Kind) (confirm : Bool) → Sure (Accepts (newTask t p tag lun kind confirm)) t
+  unfolding fateOf
+  sure-accepts p tag lun kind confirm = record {
+    next = λ a e. ap (λ (b : Task). b .arrival) (sym (same-element refl e));
+    live = λ b e. absurd (never e refl);
+  }
+
+  sure-starts : (n : ℕ) → Sure (Starts n) t
+  unfolding fateOf
+  sure-starts n = calm (Starts n) t refl (λ b. cond-ind (λ (x : Fate). endsByStatus x ≡ false) (eqb (b .arrival) n) (λ _. refl) (λ _. refl))
+
+  sure-restarts : (s : Selection) (offset : ℕ) → Sure (Restarts s offset) t
+  unfolding fateOf
+  sure-restarts s offset = calm (Restarts s offset) t refl (λ b. cond-ind (λ (x : Fate). endsByStatus x ≡ false) (picks s b) (λ _. refl) (λ _. refl))
+
+  sure-ends : (s : Selection) (how : Label) → isStatus how ≡ false → Sure (Ends s how) t
+  unfolding fateOf
+  sure-ends s how e = calm (Ends s how) t refl (λ b. cond-ind (λ (x : Fate). endsByStatus x ≡ false) (picks s b) (λ _. e) (λ _. refl))
+
+  -- what it ends by status has the number of the live task in record i
+  sure-named : (effect : Effect) (i : ℕ) (a : Task) → i < 64 → at t i ≡ some a → taken effect ≡ none
+      → ((b : Task) → endsByStatus (fateOf effect b) ≡ true → b .arrival ≡ a .arrival) → Sure effect t
+  sure-named effect i a l e n q = record { next = λ b d. absurd (not-both n d); live = λ b s. (i, a, l, e, q b s) }
+
 -- ---- the effects
 
 pub done-nothing : (t : Table) → Done Nothing t t
-done-nothing t = record { count = refl; ids = λ p. refl; next = omega arith; weighs = λ f. omega arith; sure = tt }
+unfolding fateOf
+done-nothing t = record { count = refl; ids = λ p. refl; next = omega arith; weighs = λ f. omega arith; sure = sure-nothing t }
 
 -- paths that keep their ids and units change no effect
 done-beside : (effect : Effect) (t u : Table) (ps : List path.Path) (us : List unit.Unit) → idsOf ps ≡ idsOf (u .paths) → Done effect t u
@@ -100,22 +139,39 @@ only-count t u o = ap (λ (x : Table). x .count) (o .rest)
 only-ids : (t u : Table) → OnlyTasks t u → (p : ℕ) → pathAt u p .id ≡ pathAt t p .id
 only-ids t u o p = ap (λ (x : Table). pathAt x p .id) (o .rest)
 
-done-accepted : (t : Table) (p tag lun : ℕ) (kind : Kind) → Shaped t → hasRoom t ≡ true
-    → Done (Accepts (newTask t p tag lun kind)) t (accepted t p tag lun kind)
-done-accepted t p tag lun kind h room = record {
-  count = only-count t _ (accepted-only t p tag lun kind);
-  ids = only-ids t _ (accepted-only t p tag lun kind);
-  next = ap (λ (x : Table). x .next) (accepted-put t p tag lun kind room);
-  weighs = λ f. accept-weighs f t p tag lun kind h room;
-  sure = refl;
-}
+module _ (t : Table) (effect : Effect) (s : Selection) (how : Label) where
+  -- the live tasks that are picked end so, and the others stay
+  abbrev EndsPicked : Type 0
+  EndsPicked = (i : ℕ) (b : Task) → i < 64 → at t i ≡ some b → fateOf effect b ≡ cond (picks s b) (ended how) stays
 
-done-ended : (t : Table) (s : Selection) (how : Label) → Shaped t → Sure (Ends s how) t → Done (Ends s how) t (endedBy t s)
-done-ended t s how h sure = record {
-  count = only-count t _ (ended-only t s);
-  ids = only-ids t _ (ended-only t s);
-  next = ended-next t s ∙ omega arith;
-  weighs = λ f. end-weighs f t s h ∙ omega arith;
+  done-ended : Shaped t → taken effect ≡ none → EndsPicked → Sure effect t → Done effect t (endedBy t s)
+  done-ended h n fates sure = record {
+    count = only-count t _ (ended-only t s);
+    ids = only-ids t _ (ended-only t s);
+    next = omega (arith, ended-next t s, ap (weightAt (λ a. 1)) n);
+    weighs = λ f. omega (arith, end-weighs f t s h, left f, ap (weightAt f) n);
+    sure = sure;
+  }
+    where
+      left : (f : Task → ℕ) → weight (λ b. cond (picks s b) 0 (f b)) t ≡ weight (weighed effect f) t
+      left f =
+          weight-live (λ b. cond (picks s b) 0 (f b)) (weighed effect f) t
+          (λ i b l e. rw (fates i b l e) (elim (either-way (picks s b)) [ inl y ↦ rw y refl | inr y ↦ rw y refl ]))
+
+-- the live task in record k goes on as b, and those with another number stay
+done-altered : (t : Table) (effect : Effect) (k : ℕ) (a b : Task) → Good t → k < 64 → at t k ≡ some a → taken effect ≡ none → fateOf effect a ≡ becomes b
+    → ((c : Task) → (c .arrival ≡ a .arrival → ⊥) → fateOf effect c ≡ stays) → Sure effect t → Done effect t (alteredAt t k b)
+done-altered t effect k a b g l e n fate rest sure = record {
+  count = only-count t _ (altered-only t k b);
+  ids = only-ids t _ (altered-only t k b);
+  next = omega (arith, altered-next t k b, ap (weightAt (λ a. 1)) n);
+  weighs =
+      λ f.
+      omega (
+        arith,
+        altered-weighs f (weighed effect f) t k a b g l e (ap (fated f a) fate) (λ c other. ap (fated f c) (rest c other)),
+        ap (weightAt f) n,
+      );
   sure = sure;
 }
 
@@ -135,29 +191,34 @@ module _ (t : Table) (g : Good t) where
   }
 
   -- the mark goes, and the command comes
-  done-coming : (p tag lun : ℕ) (kind : Kind) → hasRoom t ≡ true
-      → Done (Accepts (newTask t p tag lun kind)) t (accepted (withParts t (change.Sender p Unmark)) p tag lun kind)
-  unfolding hasRoom
-  done-coming p tag lun kind room =
+  done-coming : (p tag lun : ℕ) (kind : Kind) (confirm : Bool) → hasRoom t ≡ true
+      → Done (Accepts (newTask t p tag lun kind confirm)) t (accepted (withParts t (change.Sender p Unmark)) p tag lun kind confirm)
+  unfolding hasRoom fateOf
+  done-coming p tag lun kind confirm room =
       let u : Table = withParts t (change.Sender p Unmark) in
-      let d : Done (Accepts (newTask t p tag lun kind)) u (accepted u p tag lun kind) = done-accepted u p tag lun kind (shaped-sender p Unmark) room in
+      let o : OnlyTasks u (accepted u p tag lun kind confirm) = accepted-only u p tag lun kind confirm in
       record {
-        count = d .count;
-        ids = λ k. d .ids k ∙ done-parts (change.Sender p Unmark) .ids k;
-        next = d .next;
-        weighs = λ f. omega (arith, d .weighs f, done-parts (change.Sender p Unmark) .weighs f);
-        sure = refl;
+        count = only-count u _ o;
+        ids = λ k. only-ids u _ o k ∙ done-parts (change.Sender p Unmark) .ids k;
+        next = ap (λ (x : Table). x .next) (accepted-put u p tag lun kind confirm room);
+        weighs = λ f. omega (arith, accept-weighs f u p tag lun kind confirm (shaped-sender p Unmark) room, done-parts (change.Sender p Unmark) .weighs f);
+        sure = sure-accepts t p tag lun kind confirm;
       }
 
   done-ruled : (p tag lun : ℕ) (flags : Flags) (r : Ruling) → (r ≡ Accept → hasRoom t ≡ true)
-      → Done (commandEffect p tag lun (kindOf (flags .queue)) (ruled (t .next) p tag lun flags r .answer)) t (carriedOut t (ruled (t .next) p tag lun flags r))
+      → Done (commandEffect p tag lun (kindOf (flags .queue)) (flags .confirm) (ruled (t .next) p tag lun flags r .answer)) t (carriedOut t (ruled (t .next) p tag lun flags r))
   unfolding carriedOut acted
   done-ruled p tag lun flags (Refuse n) room = done-nothing t
   done-ruled p tag lun flags (Respond code mood) room = done-parts (change.Sender p mood)
   done-ruled p tag lun flags (Report status sense mood) room = done-parts (change.Sender p mood)
-  done-ruled p tag lun flags Accept room = done-coming p tag lun (kindOf (flags .queue)) (room refl)
+  done-ruled p tag lun flags (Invalid mood) room = done-parts (change.Sender p mood)
+  done-ruled p tag lun flags Accept room = done-coming p tag lun (kindOf (flags .queue)) (flags .confirm) (room refl)
 
   -- ---- an order
+
+  done-picked : (s : Selection) (how : Label) → Sure (Ends s how) t → Done (Ends s how) t (endedBy t s)
+  unfolding fateOf
+  done-picked s how sure = done-ended t (Ends s how) s how (g .shaped) refl (λ _ _ _ _. refl) sure
 
   done-besides : (losers p : ℕ) (o : Order) → Done (Ends (endsOf p o) (byOrder o)) t (endedBy (withParts t (change.Besides losers o)) (endsOf p o))
   done-besides losers p o =
@@ -168,7 +229,7 @@ module _ (t : Table) (g : Good t) where
       ended-paths (withUnits t us) s ps ∙ ap (λ (x : Table). withPaths x ps) (ended-units t s us) in
       let kept : idsOf ps ≡ idsOf (endedBy t s .paths) =
       ids-after (t .paths) (t .count) (change.Besides losers o) ∙ ap (λ (x : Table). idsOf (x .paths)) (sym (ended-only t s .rest)) in
-      subst (Done (Ends s (byOrder o)) t) (sym turned) (done-beside (Ends s (byOrder o)) t (endedBy t s) ps us kept (done-ended t s (byOrder o) (g .shaped) (λ e. absurd (never e refl))))
+      subst (Done (Ends s (byOrder o)) t) (sym turned) (done-beside (Ends s (byOrder o)) t (endedBy t s) ps us kept (done-picked s (byOrder o) (sure-ends t s (byOrder o) refl)))
 
   done-ordered : (f : Facts) (p tag : ℕ) (m : List ℕ) (o : Order) → Done (orderEffect p o (orderPlan f p tag m o .answer)) t (carriedOut t (orderPlan f p tag m o))
   unfolding orderPlan carriedOut acted
@@ -179,65 +240,92 @@ module _ (t : Table) (g : Good t) where
       (done-besides (f .losers) p o))
       (λ e. subst (λ (b : Bool). Done (cond b (Ends (endsOf p o) (byOrder o)) Nothing) t t) (sym e) (done-nothing t))
 
+  -- ---- a confirmation
+
+  -- the task a of a path and a tag, in record k
+  module _ (p tag k : ℕ) (a : Task) (f : Found t (named p tag) k a) where
+    abbrev own : Selection
+    own = numberedAs (a .arrival) p tag
+
+    done-confirmed : Done (Ends own byStatus) t (endedBy t own)
+    unfolding fateOf
+    done-confirmed =
+        done-picked own byStatus
+        (sure-named t (Ends own byStatus) k a (f .below) (f .here) refl
+        (λ b. cond-ind (λ (x : Fate). endsByStatus x ≡ true → b .arrival ≡ a .arrival) (picks own b) (λ y _. eqb-true _ _ (meets own b y .number)) (λ _ e. absurd (never e refl))))
+
+    done-restarted : (offset : ℕ) → Done (Restarts own offset) t (restarted t k offset)
+    unfolding fateOf picks
+    done-restarted offset =
+        rw (live-at t k (f .here) .1)
+        (done-altered t (Restarts own offset) k a (restarts offset a) g (f .below) (f .here) refl (rw (eq-eqb (a .arrival) (a .arrival) refl, f .picked))
+        (λ c other. rw (ne-eqb (c .arrival) (a .arrival) other)) (sure-restarts t own offset))
+
+  done-confirm : (p tag : ℕ) (m : List ℕ) (offset : ℕ) (complete : Bool)
+      → let pl : Plan = confirmPlan (pickOf t (named p tag)) p tag m offset complete in Done (confirmEffect p tag offset (pl .answer)) t (carriedOut t pl)
+  unfolding carriedOut acted
+  done-confirm p tag m offset complete =
+      let found : isAwaited (pickOf t (named p tag)) ≡ true → Found t (named p tag) _ _ = λ w. pick-at t (named p tag) (g .shaped) (both _ _ w .0) in
+      each-confirm (λ (pl : Plan). Done (confirmEffect p tag offset (pl .answer)) t (carriedOut t pl)) (pickOf t (named p tag)) p tag m offset complete
+      (done-nothing t) (done-nothing t) (λ w. done-confirmed p tag _ _ (found w)) (λ w _. done-restarted p tag _ _ (found w) offset)
+
   -- ---- start, finish, total reset
 
-  done-started : (s : Selection) → pickOf t s .found ≡ true → Done (Starts (pickOf t s .arrival)) t (started t (pickOf t s .at))
+  done-started : (s : Selection) → pickOf t s .found ≡ true → Done (Starts (pickOf t s .task .arrival)) t (started t (pickOf t s .at))
+  unfolding fateOf
   done-started s found =
       let k : ℕ = pickOf t s .at in
+      let a : Task = pickOf t s .task in
       let f = pick-at t s (g .shaped) found in
-      let n : pickOf t s .arrival ≡ taskAt t k .arrival = pick-stands t s (g .shaped) found .arrival in
-      record {
-        count = only-count t _ (started-only t k);
-        ids = only-ids t _ (started-only t k);
-        next = started-next t k ∙ omega arith;
-        weighs = λ w. rw n (started-weighs w t k (taskAt t k) g (f .below) (f .here) ∙ omega arith);
-        sure = tt;
-      }
+      rw (live-at t k (f .here) .1)
+      (done-altered t (Starts (a .arrival)) k a (runs a) g (f .below) (f .here) refl (rw (eq-eqb (a .arrival) (a .arrival) refl))
+      (λ c other. rw (ne-eqb (c .arrival) (a .arrival) other)) (sure-starts t (a .arrival)))
 
-  -- a live task with the number of a running one is that one
-  same-picked : (arrival k : ℕ) (a : Task) → Found t (runningAs arrival) k a → (i : ℕ) (b : Task) → i < 64 → at t i ≡ some b
-      → picks (runningAs arrival) b ≡ picks (numbered arrival) b
-  unfolding picks
-  same-picked arrival k a f i b below here = elim (either-way (eqb (b .arrival) arrival)) [
-    | inl y ↦
-        let n : a .arrival ≡ arrival = eqb-true _ _ (meets (runningAs arrival) a (f .picked) .number) in
-        let one : i ≡ k = g .sound .one-arrival i k b a below (f .below) here (f .here) (eqb-true _ _ y ∙ sym n) in
-        let there : at t i ≡ some a = rw one (f .here) in
-        let same : a ≡ b = cc in
-        let asked : picks (numbered arrival) b ≡ true = rw y refl in
-        subst (λ (x : Task). picks (runningAs arrival) x ≡ true) same (f .picked) ∙ sym asked
-    | inr y ↦ rw y refl
-  ]
+  -- the running task a of an arrival number, in record k
+  module _ (arrival transferred k : ℕ) (a : Task) (f : Found t (runningAs arrival) k a) where
+    numbered-so : a .arrival ≡ arrival
+    numbered-so = eqb-true _ _ (meets (runningAs arrival) a (f .picked) .number)
 
-  done-finished : (arrival : ℕ) (failed : Bool) → pickOf t (runningAs arrival) .found ≡ true
-      → Done (Ends (numbered arrival) byStatus) t (finished t (runningTask t arrival) failed)
-  done-finished arrival failed found =
-      let a : Task = runningTask t arrival in
-      let f = pick-at t (runningAs arrival) (g .shaped) found in
-      let n : a .arrival ≡ arrival = eqb-true _ _ (meets (runningAs arrival) a (f .picked) .number) in
-      let d : Done (Ends (numbered arrival) byStatus) t (endedBy t (runningAs arrival)) =
-      record {
-        count = only-count t _ (ended-only t (runningAs arrival));
-        ids = only-ids t _ (ended-only t (runningAs arrival));
-        next = ended-next t (runningAs arrival) ∙ omega arith;
-        weighs = λ w. end-weighs w t (runningAs arrival) (g .shaped) ∙ left w ∙ omega arith;
-        sure = λ _. (pickOf t (runningAs arrival) .at, a, f .below, f .here, λ b e. eqb-true _ _ (meets (numbered arrival) b e .number) ∙ sym n);
-      } in
-      rw (finished-units t a failed, n) (done-beside (Ends (numbered arrival) byStatus) t (endedBy t (runningAs arrival)) (endedBy t (runningAs arrival) .paths) _ refl d)
-    where
-      left : (w : Task → ℕ) → weight (λ b. cond (picks (runningAs arrival) b) 0 (w b)) t ≡ weight (λ b. cond (picks (numbered arrival) b) 0 (w b)) t
-      left w =
-          weight-live (λ b. cond (picks (runningAs arrival) b) 0 (w b)) (λ b. cond (picks (numbered arrival) b) 0 (w b)) t
-          (λ i b below here. ap (λ (x : Bool). cond x 0 (w b)) (same-picked arrival _ _ (pick-at t (runningAs arrival) (g .shaped) found) i b below here))
+    sure-finishes : Sure (Finishes arrival transferred) t
+    unfolding fateOf
+    sure-finishes =
+        sure-named t (Finishes arrival transferred) k a (f .below) (f .here) refl
+        (λ b. cond-ind (λ (x : Fate). endsByStatus x ≡ true → b .arrival ≡ a .arrival) (eqb (b .arrival) arrival) (λ y _. eqb-true _ _ y ∙ sym numbered-so) (λ _ e. absurd (never e refl)))
+
+    -- a live task with that number is that one
+    same-fate : a .confirm ≡ false → EndsPicked t (Finishes arrival transferred) (runningAs arrival) byStatus
+    unfolding fateOf picks
+    same-fate plain i b below here = elim (either-way (eqb (b .arrival) arrival)) [
+      | inl y ↦
+          let one : i ≡ k = g .sound .one-arrival i k b a below (f .below) here (f .here) (eqb-true _ _ y ∙ sym numbered-so) in
+          let there : at t i ≡ some a = rw one (f .here) in
+          let same : a ≡ b = cc in
+          rw (← same, plain, f .picked, eq-eqb (a .arrival) arrival numbered-so)
+      | inr y ↦ rw y refl
+    ]
+
+    done-finished : (failed : Bool) → Done (Finishes arrival transferred) t (finished t k failed transferred)
+    unfolding fateOf
+    done-finished failed =
+        let effect : Effect = Finishes arrival transferred in
+        finished-ways t k failed transferred (f .below) (f .here) (Done effect t)
+        (λ c.
+        done-beside effect t (alteredAt t k (awaits transferred a)) (alteredAt t k (awaits transferred a) .paths) _ refl
+        (done-altered t effect k a (awaits transferred a) g (f .below) (f .here) refl (rw (eq-eqb (a .arrival) arrival numbered-so, c))
+        (λ d other. rw (ne-eqb (d .arrival) arrival (λ e. other (e ∙ sym numbered-so)))) sure-finishes))
+        (λ c.
+        rw numbered-so
+        (done-beside effect t (endedBy t (runningAs arrival)) (endedBy t (runningAs arrival) .paths) _ refl
+        (done-ended t effect (runningAs arrival) byStatus (g .shaped) refl (same-fate c) sure-finishes)))
 
   done-reset : Done (Ends everyTask byTotalReset) t (resetOf t)
-  unfolding resetOf
+  unfolding resetOf fateOf
   done-reset = record {
     count = refl;
     ids = λ p. ids-at (t .paths) (resetOf t .paths) p (reset-ids t);
     next = omega arith;
-    weighs = λ f. omega (arith, reset-weighs f t, weight-zero (λ a. cond (picks everyTask a) 0 (f a)) t (λ a. rw (picks-every a) refl));
-    sure = λ e. absurd (never e refl);
+    weighs = λ f. omega (arith, reset-weighs f t, weight-zero (weighed (Ends everyTask byTotalReset) f) t (λ a. rw (picks-every a) refl));
+    sure = sure-ends t everyTask byTotalReset refl;
   }
 
 -- ---- a refusal does nothing
@@ -246,11 +334,12 @@ refused-message : (ids : List ℕ) (a : Asked) (n : Refusal) → messageEffect i
 refused-message ids (Unread k) n = refl
 refused-message ids (By path tag (Command lun flags)) n = refl
 refused-message ids (By path tag (Manage o)) n = refl
+refused-message ids (By path tag (Confirm offset complete)) n = refl
 
 pub refused-nothing : (ids : List ℕ) (ev : Event) (n : Refusal) → effectOf ids ev (answer.Refused n) ≡ Nothing
 refused-nothing ids (Message m buf) n = refused-message ids (askedOf (readOf m)) n
 refused-nothing ids (Start unit) n = refl
-refused-nothing ids (Finish arrival status sense buf) n = refl
+refused-nothing ids (Finish arrival status sense transferred buf) n = refl
 refused-nothing ids TotalReset n = refl
 
 -- ---- the place of an id: in setup's list as in the table's
@@ -278,15 +367,19 @@ module _ (ids : List ℕ) (t : Table) (g : Good t) (listed : t .count ≡ length
 
   done-planned : (m : List ℕ) (path tag : ℕ) (w : What) → pathOf t path < 8
       → Done (messageEffect ids (By path tag w) (planAt t m (pathOf t path) tag w .answer)) t (carriedOut t (planAt t m (pathOf t path) tag w))
-  unfolding planAt
+  unfolding planAt seenOf
   done-planned m path tag (Command lun flags) l =
       let p : ℕ = pathOf t path in
-      subst (λ (q : ℕ). Done (commandEffect q tag lun (kindOf (flags .queue)) (planAt t m p tag (Command lun flags) .answer)) t (carriedOut t (planAt t m p tag (Command lun flags)))) (sym (place path l))
+      subst (λ (q : ℕ). Done (commandEffect q tag lun (kindOf (flags .queue)) (flags .confirm) (planAt t m p tag (Command lun flags) .answer)) t (carriedOut t (planAt t m p tag (Command lun flags)))) (sym (place path l))
       (done-ruled t g p tag lun flags (deciding (factsOf t p tag lun false) flags m .gives) (accept-has-room t p tag lun flags m))
   done-planned m path tag (Manage o) l =
       let p : ℕ = pathOf t path in
       subst (λ (q : ℕ). Done (orderEffect q o (planAt t m p tag (Manage o) .answer)) t (carriedOut t (planAt t m p tag (Manage o)))) (sym (place path l))
       (done-ordered t g _ p tag m o)
+  done-planned m path tag (Confirm offset complete) l =
+      let p : ℕ = pathOf t path in
+      subst (λ (q : ℕ). Done (confirmEffect q tag offset (planAt t m p tag (Confirm offset complete) .answer)) t (carriedOut t (planAt t m p tag (Confirm offset complete)))) (sym (place path l))
+      (done-confirm t g p tag m offset complete)
 
   pub message-done : (m buf : List ℕ) → DoneBy (Message m buf) (messageOf t m (length buf))
   message-done m buf =
@@ -300,9 +393,12 @@ module _ (ids : List ℕ) (t : Table) (g : Good t) (listed : t .count ≡ length
   unfolding choiceOn
   start-done unit = each-start (DoneBy (Start unit)) t (stops (Start unit)) unit (λ _ _ found. done-started t g _ found)
 
-  pub finish-done : (arrival : ℕ) (status : StatusByte) (sense : Sense) (buf : List ℕ) → DoneBy (Finish arrival status sense buf) (finishOf t arrival status sense (length buf))
-  finish-done arrival status sense buf =
-      each-finish (DoneBy (Finish arrival status sense buf)) t (stops (Finish arrival status sense buf)) arrival status sense (length buf) (λ found. done-finished t g arrival _ found)
+  pub finish-done : (arrival : ℕ) (status : StatusByte) (sense : Sense) (transferred : ℕ) (buf : List ℕ)
+      → DoneBy (Finish arrival status sense transferred buf) (finishOf t arrival status sense transferred (length buf))
+  finish-done arrival status sense transferred buf =
+      let ev : Event = Finish arrival status sense transferred buf in
+      each-finish (DoneBy ev) t (stops ev) arrival status sense transferred (length buf)
+      (λ found. done-finished t g arrival transferred _ _ (pick-at t (runningAs arrival) (g .shaped) found) _)
 
   pub reset-done : DoneBy TotalReset (totalResetOf t)
   reset-done = each-reset (DoneBy TotalReset) t (stops TotalReset) (done-reset t g)

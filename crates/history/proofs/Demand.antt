@@ -7,39 +7,28 @@ use native.Mathlib.Omega.{arith}
 use lib.ListN.{length}
 use Rattle.wire.specs.Paper
 use Rattle.wire.specs.declared.codes.Refusal.{Refusal}
-use Rattle.task.proofs.Ways.{never}
 use Rattle.table.specs.Setup.{badList, freshTable, setupTable}
 use Rattle.table.specs.declared.Path as path
 use Rattle.table.specs.declared.Table.{Table}
 use Rattle.table.proofs.Keeps.{listed-at}
 use Rattle.table.proofs.Weights.{setup-weighs}
 use Rattle.engine.specs.Calls.{messageOf, startOf, finishOf, totalResetOf, setupOf}
-use Rattle.plan.specs.declared.Answer.{Answer}
 use Rattle.plan.specs.declared.Answer.the-variants as answer
 use Rattle.engine.specs.declared.Outcome.{Outcome}
 use Rattle.engine.proofs.Keeps.{message-keeps, start-keeps, finish-keeps, reset-keeps, setup-is-good}
-use Rattle.history.specs.Trace.{Event, Message, Start, Finish, TotalReset, effectOf}
+use Rattle.history.specs.Trace.{Event, Message, Start, Finish, TotalReset, Nothing, effectOf}
 use Rattle.history.specs.Ledger.{Entry, noted, ledgerFrom, total}
 use Rattle.history.specs.Demand.{Call, told, Contract, Engine, Chained, lastTable, Demand3}
 use Rattle.history.specs.Drives.{ByDrive, refusesAll, RefusingMeets}
 use Rattle.history.proofs.Kept.{Tied, kept}
-use Rattle.history.proofs.Calls.{refused-nothing, message-done, start-done, finish-done, reset-done}
+use Rattle.history.proofs.Calls.{done-nothing, refused-nothing, message-done, start-done, finish-done, reset-done}
 use Rattle.history.proofs.Agreeing.{agrees}
 
 -- ---- after setup
 
 not-refused : (b : Bool) (n : Refusal) → cond b (answer.Refused n) answer.Ready ≡ answer.Ready → b ≡ false
 not-refused false n e = refl
-not-refused true n e = absurd (never refl (sym (ap isReady e)))
-  where
-    isReady : Answer → Bool
-    isReady answer.Ready = true
-    isReady (answer.Accepted k) = false
-    isReady (answer.Response tag code) = false
-    isReady (answer.Status tag status sense) = false
-    isReady (answer.Started k) = false
-    isReady answer.Reset = false
-    isReady (answer.Refused k) = false
+not-refused true n e = let z : _≡_ {A = ℕ} 0 1 = cc in absurd (omega arith)
 
 tied-fresh : (ids : List ℕ) (attached first : ℕ) → first < 2 ^ 64 → badList ids ≡ false → Tied ids [] (setupOf ids attached first .table)
 unfolding setupOf setupTable freshTable total
@@ -80,10 +69,10 @@ engine-keeps ids l t n (Message m buf) o left T c =
     (kept ids l t (messageOf t m (length buf) .table) T (message-keeps t m (length buf) (T .good)) n _ (message-done ids t (T .good) (T .listed) (T .ids-stand) m buf))
 engine-keeps ids l t n (Start unit) o left T c =
     rw c (kept ids l t (startOf t unit .table) T (start-keeps t unit (T .good)) n _ (start-done ids t (T .good) (T .listed) (T .ids-stand) unit))
-engine-keeps ids l t n (Finish arrival status sense buf) o left T c =
+engine-keeps ids l t n (Finish arrival status sense transferred buf) o left T c =
     rw (c .outcome)
-    (kept ids l t (finishOf t arrival status sense (length buf) .table) T (finish-keeps t arrival status sense (length buf) (T .good)) n _
-    (finish-done ids t (T .good) (T .listed) (T .ids-stand) arrival status sense buf))
+    (kept ids l t (finishOf t arrival status sense transferred (length buf) .table) T (finish-keeps t arrival status sense transferred (length buf) (T .good)) n _
+    (finish-done ids t (T .good) (T .listed) (T .ids-stand) arrival status sense transferred buf))
 engine-keeps ids l t n TotalReset o left T c =
     rw c (kept ids l t (totalResetOf t .table) T (reset-keeps t (T .good)) n _ (reset-done ids t (T .good) (T .listed) (T .ids-stand)))
 
@@ -94,7 +83,7 @@ demand-three = meets Engine engine-keeps
 
 refusing-keeps : Keeps (ByDrive refusesAll)
 unfolding refusesAll
-refusing-keeps ids l t n ev o left T c = rw (c, refused-nothing ids ev Paper.notHandled) T
+refusing-keeps ids l t n ev o left T c = rw (c, refused-nothing ids ev Paper.notHandled) (kept ids l t t T (T .good) n Nothing (done-nothing t))
 
 pub refusing-meets : RefusingMeets
 refusing-meets = meets (ByDrive refusesAll) refusing-keeps

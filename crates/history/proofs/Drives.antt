@@ -1,4 +1,4 @@
--- The six wrong drives do not meet demand 3, each by a short trace, computed. Assumes nothing.
+-- The seven wrong drives do not meet demand 3, each by a short trace, computed. Assumes nothing.
 use Prim.Native.Nat.{ℕ, _-_, _≤_, _^_}
 use mathlib.Core.Path.{_≡_, refl, _∙_}
 use mathlib.Core.List.{List, [], _∷_}
@@ -9,8 +9,8 @@ use Rattle.table.specs.declared.Table.{Table}
 use Rattle.engine.specs.Calls.{setupOf}
 use Rattle.history.specs.Trace.{Event, Start, Finish, TotalReset}
 use Rattle.history.specs.Demand.{told, Chained, lastTable, Agrees, Demand3}
-use Rattle.history.specs.Drives.{Drive, callsOf, ByDrive, echoes, endedByTag, goesByTag, restarts, finishesAll, losesTasks, inventsLive, WrongDrives}
-use Rattle.history.specs.TwoHosts.{hosts, fresh, buffer, command, abort}
+use Rattle.history.specs.Drives.{Drive, callsOf, ByDrive, echoes, endedByTag, goesByTag, restarts, finishesAll, losesTasks, endsAtFinish, inventsLive, WrongDrives}
+use Rattle.history.specs.TwoHosts.{hosts, fresh, buffer, command, confirmable, abort}
 use Rattle.history.proofs.Computing.{computing}
 
 -- a drive's calls are what the drive hands back
@@ -25,15 +25,18 @@ unfolding computing
 attempt drive d evs = d hosts 0x01 1 (setupOf hosts 0x01 1) (callsOf drive fresh evs) (omega arith) refl refl (chained drive fresh evs)
 
 -- INQUIRY from a host with a tag, which is accepted while the attention of setup's reset is pending
+abbrev inquire : List ℕ
+inquire = 0x12 ∷ 0 ∷ 0 ∷ 0 ∷ 0x24 ∷ 0 ∷ []
+
 abbrev inquiry : ℕ → ℕ → Event
-inquiry host tag = command host tag (0x12 ∷ 0 ∷ 0 ∷ 0 ∷ 0x24 ∷ 0 ∷ [])
+inquiry host tag = command host tag inquire
 
 -- the device finishes a command, with status GOOD
 abbrev finish : ℕ → Event
-finish arrival = Finish arrival Paper.good Paper.noSense buffer
+finish arrival = Finish arrival Paper.good Paper.noSense 0 buffer
 
 pub wrong-drives : WrongDrives
-unfolding computing echoes endedByTag goesByTag restarts finishesAll losesTasks inventsLive
+unfolding computing echoes endedByTag goesByTag restarts finishesAll losesTasks endsAtFinish inventsLive
 wrong-drives = record {
   -- two commands are accepted, none is ended, one is live
   not-echoes = λ d.
@@ -54,6 +57,10 @@ wrong-drives = record {
   -- the command is accepted, not ended and not live
   not-loses = λ d.
       let z : _≡_ {A = ℕ} 1 0 = attempt losesTasks d (inquiry 1 5 ∷ Start 0 ∷ []) .balance 0 in
+      omega arith;
+  -- the command has CONFIRM and is finished: it is accepted, not ended and not live
+  not-at-finish = λ d.
+      let z : _≡_ {A = ℕ} 1 0 = attempt endsAtFinish d (confirmable 1 5 inquire ∷ Start 0 ∷ finish 1 ∷ []) .balance 0 in
       omega arith;
   -- the live map has 64 ones, and one command is open
   not-invents = λ d.

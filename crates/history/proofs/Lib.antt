@@ -6,6 +6,7 @@ pub mod Drives
 pub mod TwoHosts
 mod Nth
 mod Totals
+mod Fates
 mod Kept
 mod Calls
 mod Agreeing

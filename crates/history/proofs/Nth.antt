@@ -1,4 +1,4 @@
--- Places of a list: what stands at a place of a list that is mapped or has one element more, and what holds of each element. Assumes nothing.
+-- Places of a list: what stands at a place of a list that is mapped or goes on, and what holds of each element. Assumes nothing.
 use Prim.Native.Nat.{ℕ, zero, suc, _<_}
 use mathlib.Core.Path.{_≡_, refl, subst}
 use mathlib.Core.List.{List, [], _∷_, _++_, map}
@@ -43,12 +43,16 @@ module _ {A : Type 0} where
     unfolding nth
     each-none k x e = absurd (Option·none-ne-some x e)
 
-    pub each-last : (l : List A) (y : A) → Each P l → P y → Each P (l ++ (y ∷ []))
+    pub each-one : (y : A) → P y → Each P (y ∷ [])
     unfolding nth
-    each-last [] y h p zero x e = subst P (same-element refl e) p
-    each-last [] y h p (suc k) x e = each-none k x e
-    each-last (z ∷ l) y h p zero x e = h zero x e
-    each-last (z ∷ l) y h p (suc k) x e = each-last l y (λ k. h (suc k)) p k x e
+    each-one y p zero x e = subst P (same-element refl e) p
+    each-one y p (suc k) x e = each-none k x e
+
+    pub each-append : (l m : List A) → Each P l → Each P m → Each P (l ++ m)
+    unfolding nth
+    each-append [] m h w k x e = w k x e
+    each-append (z ∷ l) m h w zero x e = h zero x e
+    each-append (z ∷ l) m h w (suc k) x e = each-append l m (λ k. h (suc k)) w k x e
 
   pub each-map : {B : Type 0} (P : A → Type 0) (Q : B → Type 0) (f : A → B) → ((x : A) → P x → Q (f x)) → (l : List A) → Each P l → Each Q (map f l)
   unfolding nth

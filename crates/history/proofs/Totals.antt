@@ -1,23 +1,19 @@
 -- Laws of totals over a list, and of the weight of a table's live tasks. Assumes nothing.
 use Prim.Native.Nat.{ℕ, zero, suc, _+_, _<_, _≤_}
 use mathlib.Core.Path.{_≡_, refl, sym, ap}
-use mathlib.Core.Bool.{Bool, cond}
 use mathlib.Core.List.{List, [], _∷_, _++_, map}
 use mathlib.Core.Logic.{inl, inr}
 use mathlib.Core.Option.{Option, none, some, Option·none-ne-some}
 use native.Mathlib.Decide.{ℕ-discrete}
 use native.Mathlib.Omega.{arith}
-use lib.Dec.{eqb}
-use borrow.Author.Tests.{eq-eqb, eqb-true}
 use Rattle.task.specs.Index.{sum}
 use Rattle.task.specs.declared.Task.{Task}
-use Rattle.task.proofs.Ways.{either-way}
 use Rattle.task.proofs.Places.{lt-or-le, sum-at, sum-zero}
-use Rattle.table.specs.Tables.{runs, started}
+use Rattle.table.specs.Tables.{alteredAt}
 use Rattle.table.specs.View.{at, weightAt, weight}
 use Rattle.table.specs.Promises.{Good}
 use Rattle.table.specs.declared.Table.{Table}
-use Rattle.table.proofs.Views.{at-started, at-started-other}
+use Rattle.table.proofs.Views.{altered-at, altered-other}
 use Rattle.table.proofs.Weights.{weight-ext}
 use Rattle.history.specs.Trace.{nth}
 use Rattle.history.specs.Ledger.{total}
@@ -36,20 +32,15 @@ module _ {A : Type 0} where
   total-le f g h [] = omega arith
   total-le f g h (x ∷ l) = omega (arith, h x, total-le f g h l)
 
-  pub total-zero : (f : A → ℕ) → ((x : A) → f x ≡ 0) → (l : List A) → total f l ≡ 0
-  unfolding total
-  total-zero f h [] = refl
-  total-zero f h (x ∷ l) = omega (arith, h x, total-zero f h l)
-
   pub total-add : (f g : A → ℕ) (l : List A) → total (λ x. f x + g x) l ≡ total f l + total g l
   unfolding total
   total-add f g [] = refl
   total-add f g (x ∷ l) = omega (arith, total-add f g l)
 
-  pub total-append : (f : A → ℕ) (l : List A) (x : A) → total f (l ++ (x ∷ [])) ≡ total f l + f x
+  pub total-append : (f : A → ℕ) (l m : List A) → total f (l ++ m) ≡ total f l + total f m
   unfolding total
-  total-append f [] x = omega arith
-  total-append f (y ∷ l) x = omega (arith, total-append f l x)
+  total-append f [] m = omega arith
+  total-append f (x ∷ l) m = omega (arith, total-append f l m)
 
   pub total-map : (f : A → ℕ) (g : A → A) (l : List A) → total f (map g l) ≡ total (λ x. f (g x)) l
   unfolding total
@@ -116,23 +107,16 @@ weight-zero f t h = sum-zero 64 (λ i. weightAt f (at t i)) (λ i _. nothing (at
     nothing none = refl
     nothing (some a) = h a
 
--- a start is the task with its number running
-abbrev pub runAs : ℕ → Task → Task
-runAs n a = cond (eqb (a .arrival) n) (runs a) a
-
-pub started-weighs : (f : Task → ℕ) (t : Table) (k : ℕ) (a : Task) → Good t → k < 64 → at t k ≡ some a → weight f (started t k) ≡ weight (λ b. f (runAs (a .arrival) b)) t
-started-weighs f t k a g l e =
-    weight-ext f (λ b. f (runAs (a .arrival) b)) (started t k) t
+-- a live record that changes: the new task's weight for its own number, and for any other number the weight as it was
+pub altered-weighs : (f g : Task → ℕ) (t : Table) (k : ℕ) (a b : Task) → Good t → k < 64 → at t k ≡ some a → g a ≡ f b
+    → ((c : Task) → (c .arrival ≡ a .arrival → ⊥) → g c ≡ f c) → weight f (alteredAt t k b) ≡ weight g t
+altered-weighs f g t k a b h l e new rest =
+    weight-ext f g (alteredAt t k b) t
     (λ i below. elim (ℕ-discrete i k) [
-      | yes q ↦
-          rw (q, at-started t k (g .shaped) l, e)
-          (ap (λ (b : Bool). f (cond b (runs a) a)) (sym (eq-eqb (a .arrival) (a .arrival) refl)))
-      | no n ↦ rw (at-started-other t k i n) (others i below n (at t i) refl)
+      | yes q ↦ rw (q, altered-at t k b (h .shaped) l e, e) (sym new)
+      | no n ↦ rw (altered-other t k b i n) (others i below n (at t i) refl)
     ])
   where
-    others : (i : ℕ) → i < 64 → (i ≡ k → ⊥) → (x : Option Task) → at t i ≡ x → weightAt f x ≡ weightAt (λ b. f (runAs (a .arrival) b)) x
+    others : (i : ℕ) → i < 64 → (i ≡ k → ⊥) → (x : Option Task) → at t i ≡ x → weightAt f x ≡ weightAt g x
     others i below n none d = refl
-    others i below n (some b) d = elim (either-way (eqb (b .arrival) (a .arrival))) [
-      | inl y ↦ absurd (n (g .sound .one-arrival i k b a below l d e (eqb-true _ _ y)))
-      | inr y ↦ rw y refl
-    ]
+    others i below n (some c) d = sym (rest c (λ same. n (h .sound .one-arrival i k c a below l d e same)))

@@ -2,9 +2,9 @@
 -- and whose commands a message ends. Assumes nothing.
 use Prim.Native.Nat.{ℕ, zero, suc, _+_, _<_}
 use mathlib.Core.Path.{_≡_, refl, sym, ap, subst, _∙_}
-use mathlib.Core.Bool.{true, false, _&&_, _||_}
+use mathlib.Core.Bool.{Bool, true, false}
 use mathlib.Core.List.{List, [], _∷_, map}
-use mathlib.Core.Option.{some, Option·none-ne-some}
+use mathlib.Core.Option.{Option, none, some, Option·none-ne-some}
 use mathlib.Core.Logic.{inl, inr}
 use native.Mathlib.Nat.{add-zero, zero-add, add-suc, suc-add}
 use native.Mathlib.Omega.{arith}
@@ -17,9 +17,8 @@ use Rattle.wire.specs.declared.codes.Refusal.{Refusal}
 use Rattle.wire.specs.declared.codes.ReturnCode.{ReturnCode}
 use Rattle.wire.specs.declared.codes.StatusByte.{StatusByte}
 use Rattle.wire.specs.declared.codes.Sense.{Sense}
-use Rattle.task.specs.Selections.{picks}
+use Rattle.task.specs.Selections.{picks, numberedAs}
 use Rattle.task.specs.declared.Kind.{Kind}
-use Rattle.task.specs.declared.Phase.the-variants.{Waiting}
 use Rattle.task.specs.declared.Task.{Task}
 use Rattle.task.specs.declared.select.Selection.{Selection}
 use Rattle.task.proofs.Ways.{never, cond-ind, both}
@@ -30,81 +29,87 @@ use Rattle.plan.specs.Plans.{askedOf, kindOf}
 use Rattle.rules.specs.declared.manage.Order.{Order}
 use Rattle.rules.specs.declared.manage.Order.the-variants.{AbortTask, AbortTaskSet, ClearTaskSet, ClearAca, UnitReset, TargetReset}
 use Rattle.plan.specs.declared.What.{What}
-use Rattle.plan.specs.declared.What.the-variants.{Command, Manage}
+use Rattle.plan.specs.declared.What.the-variants.{Command, Manage, Confirm}
 use Rattle.plan.specs.declared.Asked.{Asked}
 use Rattle.plan.specs.declared.Asked.the-variants.{By, Unread}
 use Rattle.plan.specs.declared.Answer.{Answer}
 use Rattle.plan.specs.declared.Answer.the-variants as answer
-use Rattle.history.specs.Trace.{Event, Message, Start, Finish, TotalReset, Told, nth, eventAt, Label, byOrder, isStatus, Effect, Nothing, Accepts, Starts, Ends, placeIn, commandEffect, orderEffect, messageEffect, startEffect, finishEffect, resetEffect, effectOf, did}
-use Rattle.history.specs.Ledger.{Ending, Entry, isEmpty, isOpen, newEntry, running, marked, noted, ledgerFrom, ledger, Has}
+use Rattle.history.specs.Trace.{Event, Message, Start, Finish, TotalReset, Told, nth, eventAt, Label, byStatus, byOrder, Effect, Nothing, Accepts, Restarts, Ends, Fate, stays, becomes, ended, fateOf, placeIn, acceptedTask, commandEffect, orderEffect, confirmEffect, messageEffect, startEffect, finishEffect, resetEffect, effectOf, did}
+use Rattle.history.specs.Ledger.{Ending, Entry, isEmpty, newEntry, meeting, coming, noted, ledgerFrom, ledger, Has}
 use Rattle.history.specs.Demand.{EntryAt, waiting, Came, Caused, reachesOthers, mayReachOthers, EndsItsOwn}
-use Rattle.history.proofs.Nth.{Each, same-element, nth-below, nth-append, nth-last, nth-map, each-none, each-last, each-map}
+use Rattle.history.proofs.Nth.{Each, same-element, nth-below, nth-append, nth-last, nth-map, each-none, each-one, each-append, each-map}
+use Rattle.history.proofs.Fates.{meeting-ways, taken, coming-ways}
 
 -- ---- what an event can do, by its answer
 
 -- a fact about every answer, from each sort of answer
 each-answer : (P : Answer → Type 0) → P answer.Ready → ((n : ℕ) → P (answer.Accepted n)) → ((t : ℕ) (code : ReturnCode) → P (answer.Response t code))
-    → ((t : ℕ) (status : StatusByte) (sense : Sense) → P (answer.Status t status sense)) → ((n : ℕ) → P (answer.Started n)) → P answer.Reset
-    → ((n : Refusal) → P (answer.Refused n)) → (a : Answer) → P a
-each-answer P ready accepted response status started reset refused answer.Ready = ready
-each-answer P ready accepted response status started reset refused (answer.Accepted n) = accepted n
-each-answer P ready accepted response status started reset refused (answer.Response t code) = response t code
-each-answer P ready accepted response status started reset refused (answer.Status t s sense) = status t s sense
-each-answer P ready accepted response status started reset refused (answer.Started n) = started n
-each-answer P ready accepted response status started reset refused answer.Reset = reset
-each-answer P ready accepted response status started reset refused (answer.Refused n) = refused n
+    → ((t : ℕ) (status : StatusByte) (sense : Sense) → P (answer.Status t status sense)) → ((t : ℕ) → P (answer.Invalid t)) → ((o n : ℕ) → P (answer.Started o n))
+    → ((n : ℕ) → P (answer.Confirmed n)) → ((n : ℕ) → P (answer.Restarted n)) → P answer.Reset → ((n : Refusal) → P (answer.Refused n)) → (a : Answer) → P a
+each-answer P ready accepted response status invalid started confirmed restarted reset refused answer.Ready = ready
+each-answer P ready accepted response status invalid started confirmed restarted reset refused (answer.Accepted n) = accepted n
+each-answer P ready accepted response status invalid started confirmed restarted reset refused (answer.Response t code) = response t code
+each-answer P ready accepted response status invalid started confirmed restarted reset refused (answer.Status t s sense) = status t s sense
+each-answer P ready accepted response status invalid started confirmed restarted reset refused (answer.Invalid t) = invalid t
+each-answer P ready accepted response status invalid started confirmed restarted reset refused (answer.Started o n) = started o n
+each-answer P ready accepted response status invalid started confirmed restarted reset refused (answer.Confirmed n) = confirmed n
+each-answer P ready accepted response status invalid started confirmed restarted reset refused (answer.Restarted n) = restarted n
+each-answer P ready accepted response status invalid started confirmed restarted reset refused answer.Reset = reset
+each-answer P ready accepted response status invalid started confirmed restarted reset refused (answer.Refused n) = refused n
 
 module _ (P : Effect → Type 0) (nothing : P Nothing) where
   -- a command is accepted, and then waits
-  command-can : (p tag lun : ℕ) (kind : Kind)
-      → ((n : ℕ) → P (Accepts (record { arrival = n; tag = tag; path = p; unit = lun; kind = kind; phase = Waiting })))
-      → (a : Answer) → P (commandEffect p tag lun kind a)
-  command-can p tag lun kind accepts =
-      each-answer (λ a. P (commandEffect p tag lun kind a)) nothing accepts (λ _ _. nothing) (λ _ _ _. nothing) (λ _. nothing) nothing (λ _. nothing)
+  command-can : (p tag lun : ℕ) (kind : Kind) (confirm : Bool) → ((n : ℕ) → P (Accepts (acceptedTask p tag lun kind confirm n)))
+      → (a : Answer) → P (commandEffect p tag lun kind confirm a)
+  command-can p tag lun kind confirm accepts =
+      each-answer (λ a. P (commandEffect p tag lun kind confirm a)) nothing accepts (λ _ _. nothing) (λ _ _ _. nothing) (λ _. nothing) (λ _ _. nothing) (λ _. nothing) (λ _. nothing) nothing (λ _. nothing)
 
   -- an order ends what it selects
   order-can : (p : ℕ) (o : Order) → P (Ends (endsOf p o) (byOrder o)) → (a : Answer) → P (orderEffect p o a)
   order-can p o ends =
       each-answer (λ a. P (orderEffect p o a)) nothing (λ _. nothing)
       (λ t code. cond-ind P (eqb (code .0) (Paper.done .0)) (λ _. ends) (λ _. nothing))
-      (λ _ _ _. nothing) (λ _. nothing) nothing (λ _. nothing)
+      (λ _ _ _. nothing) (λ _. nothing) (λ _ _. nothing) (λ _. nothing) (λ _. nothing) nothing (λ _. nothing)
+
+  -- a confirmation ends a command, or has it wait again
+  confirm-can : (p tag offset : ℕ) → ((n : ℕ) → P (Ends (numberedAs n p tag) byStatus)) → ((n : ℕ) → P (Restarts (numberedAs n p tag) offset))
+      → (a : Answer) → P (confirmEffect p tag offset a)
+  confirm-can p tag offset ends restarts =
+      each-answer (λ a. P (confirmEffect p tag offset a)) nothing (λ _. nothing) (λ _ _. nothing) (λ _ _ _. nothing) (λ _. nothing) (λ _ _. nothing) ends restarts nothing (λ _. nothing)
 
 -- what it accepts waits
+abbrev Waits : Option Task → Type 0
+Waits none = Unit {0}
+Waits (some a) = waiting a ≡ a
+
 abbrev AcceptsWaiting : Effect → Type 0
-AcceptsWaiting Nothing = Unit {0}
-AcceptsWaiting (Accepts a) = waiting a ≡ a
-AcceptsWaiting (Starts arrival) = Unit {0}
-AcceptsWaiting (Ends s how) = Unit {0}
+AcceptsWaiting f = Waits (taken f)
 
 message-waiting : (ids : List ℕ) (q : Asked) (a : Answer) → AcceptsWaiting (messageEffect ids q a)
 message-waiting ids (Unread n) a = tt
-message-waiting ids (By path tag (Command lun flags)) a = command-can AcceptsWaiting tt (placeIn ids path) tag lun (kindOf (flags .queue)) (λ _. refl) a
+message-waiting ids (By path tag (Command lun flags)) a = command-can AcceptsWaiting tt (placeIn ids path) tag lun (kindOf (flags .queue)) (flags .confirm) (λ _. refl) a
 message-waiting ids (By path tag (Manage o)) a = order-can AcceptsWaiting tt (placeIn ids path) o tt a
+message-waiting ids (By path tag (Confirm offset complete)) a = confirm-can AcceptsWaiting tt (placeIn ids path) tag offset (λ _. tt) (λ _. tt) a
 
 event-waiting : (ids : List ℕ) (ev : Event) (a : Answer) → AcceptsWaiting (effectOf ids ev a)
 event-waiting ids (Message m buf) a = message-waiting ids (askedOf (readOf m)) a
 event-waiting ids (Start unit) a =
-    each-answer (λ a. AcceptsWaiting (startEffect a)) tt (λ _. tt) (λ _ _. tt) (λ _ _ _. tt) (λ _. tt) tt (λ _. tt) a
-event-waiting ids (Finish arrival status sense buf) a =
-    each-answer (λ a. AcceptsWaiting (finishEffect arrival a)) tt (λ _. tt) (λ _ _. tt) (λ _ _ _. tt) (λ _. tt) tt (λ _. tt) a
+    each-answer (λ a. AcceptsWaiting (startEffect a)) tt (λ _. tt) (λ _ _. tt) (λ _ _ _. tt) (λ _. tt) (λ _ _. tt) (λ _. tt) (λ _. tt) tt (λ _. tt) a
+event-waiting ids (Finish arrival status sense transferred buf) a =
+    each-answer (λ a. AcceptsWaiting (finishEffect arrival transferred a)) tt (λ _. tt) (λ _ _. tt) (λ _ _ _. tt) (λ _. tt) (λ _ _. tt) (λ _. tt) (λ _. tt) tt (λ _. tt) a
 event-waiting ids TotalReset a =
-    each-answer (λ a. AcceptsWaiting (resetEffect a)) tt (λ _. tt) (λ _ _. tt) (λ _ _ _. tt) (λ _. tt) tt (λ _. tt) a
+    each-answer (λ a. AcceptsWaiting (resetEffect a)) tt (λ _. tt) (λ _ _. tt) (λ _ _ _. tt) (λ _. tt) (λ _ _. tt) (λ _. tt) (λ _. tt) tt (λ _. tt) a
 
 accepts-waiting : (ids : List ℕ) (x : Told) (a : Task) → did ids x ≡ Accepts a → waiting a ≡ a
 accepts-waiting ids x a f = subst AcceptsWaiting f (event-waiting ids (x .event) (x .answer))
 
--- ---- what an event leaves of an entry: the command but for its phase, and its acceptance
+-- ---- what an event leaves of an entry: the command but for its phase, bytes and offset, and its acceptance
 
 abbrev SameCommand : Entry → Entry → Type 0
 SameCommand e d = (d .accepted ≡ e .accepted) × (waiting (d .task) ≡ waiting (e .task))
 
-running-same : (arrival : ℕ) (e : Entry) → SameCommand e (running arrival e)
-unfolding running
-running-same arrival e = cond-ind (SameCommand e) (isOpen e && eqb (e .task .arrival) arrival) (λ _. (refl, refl)) (λ _. (refl, refl))
-
-marked-same : (n : ℕ) (s : Selection) (how : Label) (e : Entry) → SameCommand e (marked n s how e)
-unfolding marked
-marked-same n s how e = cond-ind (SameCommand e) (picks s (e .task) && (isOpen e || isStatus how)) (λ _. (refl, refl)) (λ _. (refl, refl))
+meeting-same : (n : ℕ) (f : Effect) (e : Entry) → SameCommand e (meeting n f e)
+meeting-same n f e = meeting-ways (SameCommand e) n f e (refl, refl) (λ _ _ _ _. (refl, refl)) (λ _ _. (refl, refl))
 
 -- ---- event by event: what holds before the first event, and is kept by each, holds at the end of the trace
 
@@ -147,46 +152,41 @@ module _ (ids : List ℕ) (h : List Told) where
   known-later : {n : ℕ} {e : Entry} → Known n e → Known (suc n) e
   known-later w = known-change (refl, refl) (w .caused) w
 
-  -- an entry runs only while it has no ending
-  known-running : (n arrival : ℕ) (e : Entry) → Known n e → Known (suc n) (running arrival e)
-  unfolding running
-  known-running n arrival e w =
-      known-change (running-same arrival e)
-      (cond-ind EachCaused (isOpen e && eqb (e .task .arrival) arrival) (λ t. each-empty (e .endings) _ (both _ _ t .0)) (λ _. w .caused)) w
-    where
-      each-empty : (l : List Ending) (P : Ending → Type 0) → isEmpty l ≡ true → Each P l
-      each-empty [] P o = each-none P
-      each-empty (x ∷ l) P o = absurd (never o refl)
+  each-empty : (P : Ending → Type 0) (l : List Ending) → isEmpty l ≡ true → Each P l
+  each-empty P [] o = each-none P
+  each-empty P (x ∷ l) o = absurd (never o refl)
 
   module _ (n : ℕ) (x : Told) (there : eventAt h n ≡ some x) where
-    -- one ending more, by event n
-    known-marked : (s : Selection) (how : Label) → did ids x ≡ Ends s how → (e : Entry) → Known n e → Known (suc n) (marked n s how e)
-    unfolding marked
-    known-marked s how f e w =
-        known-change (marked-same n s how e)
-        (cond-ind EachCaused (picks s (e .task) && (isOpen e || isStatus how))
-        (λ t.
-        each-last _ (e .endings) _
-        (λ k y g.
-        let c = w .caused k y g in
-        record { after = c .after; cause = c .cause; there = c .there; selection = c .selection; effect = c .effect; picked = c .picked })
-        (record { after = w .before; cause = x; there = there; selection = s; effect = f; picked = both _ _ t .0 }))
-        (λ _. w .caused)) w
+    -- an entry goes on in another way only while it has no ending; and one ending more is by event n
+    known-meeting : (e : Entry) → Known n e → Known (suc n) (meeting n (did ids x) e)
+    known-meeting e w =
+        meeting-ways (Known (suc n)) n (did ids x) e (known-later w)
+        (λ phase transferred offset o. known-change (refl, refl) (each-empty _ (e .endings) o) w)
+        (λ how f.
+        known-change (refl, refl)
+        (each-append _ (e .endings) _
+        (λ k y g. let c = w .caused k y g in record { after = c .after; cause = c .cause; there = c .there; effect = c .effect })
+        (each-one _ _ (record { after = w .before; cause = x; there = there; effect = f }))) w)
 
-    known-noted : (f : Effect) → did ids x ≡ f → (l : List Entry) → Each (Known n) l → Each (Known (suc n)) (noted n f l)
-    known-noted Nothing f l w = λ k e g. known-later (w k e g)
-    known-noted (Accepts a) f l w =
-        each-last (Known (suc n)) l (newEntry n a) (λ k e g. known-later (w k e g))
+    known-coming : Each (Known (suc n)) (coming n (did ids x))
+    known-coming =
+        coming-ways (λ (_ : Option Task) (l : List Entry). Each (Known (suc n)) l) n (did ids x) (each-none _)
+        (λ a f.
+        each-one _ (newEntry n a)
         (record {
           before = omega arith;
           came = record { cause = x; there = there; effect = f ∙ ap Accepts (sym (accepts-waiting ids x a f)) };
           caused = each-none (Caused ids h (newEntry n a));
-        })
-    known-noted (Starts arrival) f l w = each-map (Known n) (Known (suc n)) (running arrival) (known-running n arrival) l w
-    known-noted (Ends s how) f l w = each-map (Known n) (Known (suc n)) (marked n s how) (known-marked s how f) l w
+        }))
+
+    known-noted : (l : List Entry) → Each (Known n) l → Each (Known (suc n)) (noted n (did ids x) l)
+    unfolding noted
+    known-noted l w =
+        each-append (Known (suc n)) (map (meeting n (did ids x)) l) (coming n (did ids x))
+        (each-map (Known n) (Known (suc n)) (meeting n (did ids x)) known-meeting l w) known-coming
 
   known : Each (Known (1 + length h)) (ledger ids h)
-  known = by-events (λ n l. Each (Known n) l) (λ n x l there w. known-noted n x there (did ids x) refl l w) (each-none (Known 1))
+  known = by-events (λ n l. Each (Known n) l) (λ n x l there w. known-noted n x there l w) (each-none (Known 1))
 
   pub came-in : (k : ℕ) (e : Entry) → EntryAt ids h k e → Came ids h e
   came-in k e g = known k e g .came
@@ -200,19 +200,17 @@ module _ (ids : List ℕ) (h : List Told) where
 abbrev EntryOf : ℕ → Task → List Entry → Type 0
 EntryOf m a l = (k : ℕ) × (e : Entry) × (nth l k ≡ some e) × (e .accepted ≡ m) × (waiting (e .task) ≡ a)
 
-module _ (m : ℕ) (a : Task) (l : List Entry) (r : EntryOf m a l) where
-  entry-change : (change : Entry → Entry) → ((e : Entry) → SameCommand e (change e)) → EntryOf m a (map change l)
-  entry-change change same = (r .0, change (r .1), nth-map change l (r .0) (r .2), same (r .1) .0 ∙ r .3, same (r .1) .1 ∙ r .4)
-
-  entry-stays : (n : ℕ) (f : Effect) → EntryOf m a (noted n f l)
-  entry-stays n Nothing = r
-  entry-stays n (Accepts b) = (r .0, r .1, nth-append l (newEntry n b ∷ []) (r .0) (r .2), r .3, r .4)
-  entry-stays n (Starts arrival) = entry-change (running arrival) (running-same arrival)
-  entry-stays n (Ends s how) = entry-change (marked n s how) (marked-same n s how)
+entry-stays : (m : ℕ) (a : Task) (l : List Entry) → EntryOf m a l → (n : ℕ) (f : Effect) → EntryOf m a (noted n f l)
+unfolding noted
+entry-stays m a l r n f =
+    let same = meeting-same n f (r .1) in
+    (r .0, meeting n f (r .1), nth-append (map (meeting n f) l) (coming n f) (r .0) (nth-map (meeting n f) l (r .0) (r .2)), same .0 ∙ r .3, same .1 ∙ r .4)
 
 entry-new : (n : ℕ) (a : Task) (l : List Entry) (f : Effect) → f ≡ Accepts a → waiting a ≡ a → EntryOf n a (noted n f l)
+unfolding noted
 entry-new n a l f e waits =
-    subst (λ (f : Effect). EntryOf n a (noted n f l)) (sym e) (length l, newEntry n a, nth-last l (newEntry n a), refl, waits)
+    subst (λ (f : Effect). EntryOf n a (noted n f l)) (sym e)
+    (length (map (meeting n (Accepts a)) l), newEntry n a, nth-last (map (meeting n (Accepts a)) l) (newEntry n a), refl, waits)
 
 module _ (ids : List ℕ) (h : List Told) where
   -- each event before n has entered what it accepted
@@ -249,25 +247,54 @@ own-order p (ClearAca lun) r a e = eqb-true _ _ (meets _ a e .whose)
 own-order p (UnitReset lun) r a e = absurd (never refl r)
 own-order p TargetReset r a e = absurd (never refl r)
 
+pub own-numbered : (n p tag : ℕ) (a : Task) → picks (numberedAs n p tag) a ≡ true → a .path ≡ p
+own-numbered n p tag a e = eqb-true _ _ (both _ _ (meets _ a e .whose) .0)
+
+abbrev isEnded : Fate → Bool
+isEnded stays = false
+isEnded (becomes a) = false
+isEnded (ended how) = true
+
 -- what it ends is from the path at p
 abbrev EndsFrom : ℕ → Effect → Type 0
-EndsFrom p Nothing = Unit {0}
-EndsFrom p (Accepts a) = Unit {0}
-EndsFrom p (Starts arrival) = Unit {0}
-EndsFrom p (Ends s how) = (a : Task) → picks s a ≡ true → a .path ≡ p
+EndsFrom p f = (a : Task) → isEnded (fateOf f a) ≡ true → a .path ≡ p
+
+module _ (p : ℕ) where
+  from-nothing : EndsFrom p Nothing
+  unfolding fateOf
+  from-nothing a e = absurd (never e refl)
+
+  from-accept : (b : Task) → EndsFrom p (Accepts b)
+  unfolding fateOf
+  from-accept b a e = absurd (never e refl)
+
+  from-restart : (s : Selection) (offset : ℕ) → EndsFrom p (Restarts s offset)
+  unfolding fateOf
+  from-restart s offset a = cond-ind (λ (x : Fate). isEnded x ≡ true → a .path ≡ p) (picks s a) (λ _ e. absurd (never e refl)) (λ _ e. absurd (never e refl))
+
+  from-end : (s : Selection) (how : Label) → ((a : Task) → picks s a ≡ true → a .path ≡ p) → EndsFrom p (Ends s how)
+  unfolding fateOf
+  from-end s how own a = cond-ind (λ (x : Fate). isEnded x ≡ true → a .path ≡ p) (picks s a) (λ y _. own a y) (λ _ e. absurd (never e refl))
 
 own-message : (ids : List ℕ) (path tag : ℕ) (w : What) (a : Answer) → mayReachOthers w ≡ false
     → EndsFrom (placeIn ids path) (messageEffect ids (By path tag w) a)
 own-message ids path tag (Command lun flags) a r =
-    command-can (EndsFrom (placeIn ids path)) tt (placeIn ids path) tag lun (kindOf (flags .queue)) (λ _. tt) a
-own-message ids path tag (Manage o) a r = order-can (EndsFrom (placeIn ids path)) tt (placeIn ids path) o (own-order (placeIn ids path) o r) a
+    let p : ℕ = placeIn ids path in
+    command-can (EndsFrom p) (from-nothing p) p tag lun (kindOf (flags .queue)) (flags .confirm) (λ n. from-accept p _) a
+own-message ids path tag (Manage o) a r =
+    let p : ℕ = placeIn ids path in
+    order-can (EndsFrom p) (from-nothing p) p o (from-end p (endsOf p o) (byOrder o) (own-order p o r)) a
+own-message ids path tag (Confirm offset complete) a r =
+    let p : ℕ = placeIn ids path in
+    confirm-can (EndsFrom p) (from-nothing p) p tag offset
+    (λ n. from-end p (numberedAs n p tag) byStatus (own-numbered n p tag))
+    (λ n. from-restart p (numberedAs n p tag) offset) a
 
 pub ends-its-own : EndsItsOwn
 ends-its-own ids h k e x m buf path tag w g i y there sent asked r =
     let c = caused-in ids h k e x g i in
-    let f : messageEffect ids (By path tag w) (y .answer) ≡ Ends (c .selection) (x .how) =
-    ap (λ (q : Asked). messageEffect ids q (y .answer)) (sym asked)
-    ∙ ap (λ (v : Event). effectOf ids v (y .answer)) (sym sent)
-    ∙ ap (did ids) (same-element there (c .there))
-    ∙ c .effect in
-    subst (EndsFrom (placeIn ids path)) f (own-message ids path tag w (y .answer) r) (e .task) (c .picked)
+    let f : did ids (c .cause) ≡ messageEffect ids (By path tag w) (y .answer) =
+    ap (did ids) (same-element (c .there) there)
+    ∙ ap (λ (v : Event). effectOf ids v (y .answer)) sent
+    ∙ ap (λ (q : Asked). messageEffect ids q (y .answer)) asked in
+    own-message ids path tag w (y .answer) r (e .task) (ap (λ (f : Effect). isEnded (fateOf f (e .task))) (sym f) ∙ ap isEnded (c .effect))

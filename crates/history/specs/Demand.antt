@@ -7,10 +7,8 @@ use mathlib.Core.Option.{some}
 use lib.ListN.{length}
 use lib.Count.{ones}
 use Rattle.wire.specs.Messages.{readOf}
-use Rattle.task.specs.Selections.{picks}
 use Rattle.task.specs.declared.Phase.the-variants.{Waiting}
 use Rattle.task.specs.declared.Task.{Task}
-use Rattle.task.specs.declared.select.Selection.{Selection}
 use Rattle.table.specs.Tables.{pathOf}
 use Rattle.table.specs.View.{at, liveOf}
 use Rattle.table.specs.Promises.{Good}
@@ -20,11 +18,11 @@ use Rattle.engine.specs.Calls.{messageOf, startOf, finishOf, totalResetOf, setu
 use Rattle.rules.specs.declared.manage.Order.{Order}
 use Rattle.rules.specs.declared.manage.Order.the-variants.{AbortTask, AbortTaskSet, ClearTaskSet, ClearAca, UnitReset, TargetReset}
 use Rattle.plan.specs.declared.What.{What}
-use Rattle.plan.specs.declared.What.the-variants.{Command, Manage}
+use Rattle.plan.specs.declared.What.the-variants.{Command, Manage, Confirm}
 use Rattle.plan.specs.declared.Asked.the-variants.{By}
 use Rattle.plan.specs.declared.Answer.the-variants.{Ready}
 use Rattle.engine.specs.declared.Outcome.{Outcome}
-use Rattle.history.specs.Trace.{Event, Message, Start, Finish, TotalReset, Told, nth, eventAt, isStatus, isManagement, isReset, Accepts, Ends, placeIn, did}
+use Rattle.history.specs.Trace.{Event, Message, Start, Finish, TotalReset, Told, nth, eventAt, isStatus, isManagement, isReset, Accepts, ended, fateOf, placeIn, did}
 use Rattle.history.specs.Ledger.{Ending, Entry, isOpen, timesEnded, ledger, countOf, Has, acceptedFrom, endedFrom}
 
 -- ---- calls
@@ -47,7 +45,7 @@ Contract = Event → Table → Outcome → List ℕ → Type 0
 abbrev pub Engine : Contract
 Engine (Message m buf) t o left = Answers (messageOf t m (length buf)) buf o left
 Engine (Start unit) t o left = o ≡ startOf t unit
-Engine (Finish arrival status sense buf) t o left = Answers (finishOf t arrival status sense (length buf)) buf o left
+Engine (Finish arrival status sense transferred buf) t o left = Answers (finishOf t arrival status sense transferred (length buf)) buf o left
 Engine TotalReset t o left = o ≡ totalResetOf t
 
 -- each call meets the contract, given the table that the last one handed back
@@ -68,7 +66,17 @@ EntryAt ids h k e = nth (ledger ids h) k ≡ some e
 
 -- a task as it is when its command is accepted
 abbrev pub waiting : Task → Task
-waiting a = record { arrival = a .arrival; tag = a .tag; path = a .path; unit = a .unit; kind = a .kind; phase = Waiting }
+waiting a = record {
+  arrival = a .arrival;
+  transferred = 0;
+  offset = 0;
+  tag = a .tag;
+  path = a .path;
+  unit = a .unit;
+  kind = a .kind;
+  phase = Waiting;
+  confirm = a .confirm;
+}
 
 -- an entry's command was accepted by an event of the trace, the one whose number stands in the entry
 pub record Came (ids : List ℕ) (h : List Told) (e : Entry) : Type 0 where
@@ -81,16 +89,14 @@ pub record Caused (ids : List ℕ) (h : List Told) (e : Entry) (x : Ending) : Ty
   pub after : e .accepted < x .event
   pub cause : Told
   pub there : eventAt h (x .event) ≡ some cause
-  pub selection : Selection
-  pub effect : did ids cause ≡ Ends selection (x .how)
-  pub picked : picks selection (e .task) ≡ true
+  pub effect : fateOf (did ids cause) (e .task) ≡ ended (x .how)
 
 -- ended by status + ended by management + ended by reset + live records, for the path at p
 abbrev pub accountedFor : ℕ → List Entry → Table → ℕ
 accountedFor p l t = endedFrom isStatus p l + endedFrom isManagement p l + endedFrom isReset p l + liveOf p t
 
 pub record Agrees (ids : List ℕ) (h : List Told) (t : Table) : Type 0 where
-  -- 1. one live record for each open entry, with its path, tag, unit, kind and arrival number, and no other live record
+  -- 1. one live record for each open entry, with its path, tag, unit, kind and arrival number and all else, and no other live record
   pub held : (k : ℕ) (e : Entry) → EntryAt ids h k e → isOpen e ≡ true → (i : ℕ) × (i < 64) × (at t i ≡ some (e .task))
   pub no-other : (i : ℕ) (a : Task) → i < 64 → at t i ≡ some a → (k : ℕ) × (e : Entry) × EntryAt ids h k e × (isOpen e ≡ true) × (e .task ≡ a)
   --    an arrival number names one live record and one accepted command, open or ended
@@ -127,6 +133,7 @@ reachesOthers TargetReset = true
 abbrev pub mayReachOthers : What → Bool
 mayReachOthers (Command lun flags) = false
 mayReachOthers (Manage o) = reachesOthers o
+mayReachOthers (Confirm offset complete) = false
 
 -- in the ledger of any trace, whatever the tags: a command that is ended by another order was the sender's own
 abbrev pub EndsItsOwn : Type 0

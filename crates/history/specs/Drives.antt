@@ -1,4 +1,4 @@
--- Wrong drives: six differ from the engine in one thing and break demand 3 on a short trace; a seventh refuses every call, which demand 3 alone does not refuse.
+-- Wrong drives: seven differ from the engine in one thing and break demand 3 on a short trace; an eighth refuses every call, which demand 3 alone does not refuse.
 use Prim.Native.Nat.{ℕ, zero, suc, _-_, _^_}
 use mathlib.Core.Path.{_≡_}
 use mathlib.Core.Bool.{cond}
@@ -7,14 +7,20 @@ use lib.ListN.{length}
 use lib.Dec.{eqb}
 use Rattle.wire.specs.Paper
 use Rattle.wire.specs.Messages.{readOf}
-use Rattle.task.specs.Selections.{everyTask, named}
+use Rattle.task.specs.Selections.{select, everyTask, named}
+use Rattle.task.specs.declared.select.Number.the-variants.{Exactly}
+use Rattle.task.specs.declared.select.Whose.the-variants.{Anyone}
+use Rattle.task.specs.declared.select.Place.the-variants.{Anywhere}
+use Rattle.task.specs.declared.select.Sort.the-variants.{AnyKind}
+use Rattle.task.specs.declared.select.Stage.the-variants.{AnyPhase}
+use Rattle.task.specs.declared.select.Selection.{Selection}
 use Rattle.table.specs.Tables.{endedBy}
 use Rattle.table.specs.declared.Table.{Table}
 use Rattle.plan.specs.Plans.{askedOf}
 use Rattle.engine.specs.Calls.{messageOf, startOf, finishOf, totalResetOf, out}
 use Rattle.rules.specs.declared.manage.Order.{Order}
 use Rattle.rules.specs.declared.manage.Order.the-variants.{AbortTask, AbortTaskSet, ClearTaskSet, ClearAca, UnitReset, TargetReset}
-use Rattle.plan.specs.declared.What.the-variants.{Command, Manage}
+use Rattle.plan.specs.declared.What.the-variants.{Command, Manage, Confirm}
 use Rattle.plan.specs.declared.Asked.{Asked}
 use Rattle.plan.specs.declared.Asked.the-variants.{By, Unread}
 use Rattle.plan.specs.declared.Answer.the-variants as answer
@@ -38,7 +44,7 @@ ByDrive drive ev t o left = o ≡ drive ev t
 unfoldable pub engine : Drive
 engine (Message m buf) t = messageOf t m (length buf)
 engine (Start unit) t = startOf t unit
-engine (Finish arrival status sense buf) t = finishOf t arrival status sense (length buf)
+engine (Finish arrival status sense transferred buf) t = finishOf t arrival status sense transferred (length buf)
 engine TotalReset t = totalResetOf t
 
 -- ---- the engine's outcome, with one thing wrong
@@ -68,11 +74,12 @@ abbrev pub asksByTag : Outcome → Asked → Outcome
 asksByTag o (Unread n) = o
 asksByTag o (By path tag (Command lun flags)) = o
 asksByTag o (By path tag (Manage order)) = abortsByTag o order
+asksByTag o (By path tag (Confirm offset complete)) = o
 
 unfoldable pub goesByTag : Drive
 goesByTag (Message m buf) t = asksByTag (messageOf t m (length buf)) (askedOf (readOf m))
 goesByTag (Start unit) t = engine (Start unit) t
-goesByTag (Finish arrival status sense buf) t = engine (Finish arrival status sense buf) t
+goesByTag (Finish arrival status sense transferred buf) t = engine (Finish arrival status sense transferred buf) t
 goesByTag TotalReset t = engine TotalReset t
 
 -- total reset starts the arrival numbers anew, at 1
@@ -82,22 +89,33 @@ fromOne t = record { live = t .live; next = 1; count = t .count; attached = t .a
 unfoldable pub restarts : Drive
 restarts (Message m buf) t = engine (Message m buf) t
 restarts (Start unit) t = engine (Start unit) t
-restarts (Finish arrival status sense buf) t = engine (Finish arrival status sense buf) t
+restarts (Finish arrival status sense transferred buf) t = engine (Finish arrival status sense transferred buf) t
 restarts TotalReset t = withTable (totalResetOf t) (fromOne (totalResetOf t .table))
 
 -- every finish is answered by a STATUS
 unfoldable pub finishesAll : Drive
 finishesAll (Message m buf) t = engine (Message m buf) t
 finishesAll (Start unit) t = engine (Start unit) t
-finishesAll (Finish arrival status sense buf) t = out (finishOf t arrival status sense (length buf) .table) (answer.Status 0 status sense) 0
+finishesAll (Finish arrival status sense transferred buf) t = out (finishOf t arrival status sense transferred (length buf) .table) (answer.Status 0 status sense) 0
 finishesAll TotalReset t = engine TotalReset t
 
 -- a start loses the tasks
 unfoldable pub losesTasks : Drive
 losesTasks (Message m buf) t = engine (Message m buf) t
 losesTasks (Start unit) t = withTable (startOf t unit) (endedBy (startOf t unit .table) everyTask)
-losesTasks (Finish arrival status sense buf) t = engine (Finish arrival status sense buf) t
+losesTasks (Finish arrival status sense transferred buf) t = engine (Finish arrival status sense transferred buf) t
 losesTasks TotalReset t = engine TotalReset t
+
+-- a task with CONFIRM is ended at its finish, as any other
+abbrev pub numbered : ℕ → Selection
+numbered arrival = select (Exactly arrival) Anyone Anywhere AnyKind AnyPhase
+
+unfoldable pub endsAtFinish : Drive
+endsAtFinish (Message m buf) t = engine (Message m buf) t
+endsAtFinish (Start unit) t = engine (Start unit) t
+endsAtFinish (Finish arrival status sense transferred buf) t =
+    withTable (finishOf t arrival status sense transferred (length buf)) (endedBy (finishOf t arrival status sense transferred (length buf) .table) (numbered arrival))
+endsAtFinish TotalReset t = engine TotalReset t
 
 -- every record is said to be live
 abbrev pub allLive : Table → Table
@@ -113,6 +131,7 @@ pub record WrongDrives : Type 0 where
   pub not-restarts : Demand3 (ByDrive restarts) → ⊥
   pub not-finishes-all : Demand3 (ByDrive finishesAll) → ⊥
   pub not-loses : Demand3 (ByDrive losesTasks) → ⊥
+  pub not-at-finish : Demand3 (ByDrive endsAtFinish) → ⊥
   pub not-invents : Demand3 (ByDrive inventsLive) → ⊥
 
 -- ---- what demand 3 alone does not refuse: a drive that refuses every call. Demand 2 does, at example c.

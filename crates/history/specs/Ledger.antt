@@ -1,24 +1,22 @@
 -- The ledger of a trace: an entry for each accepted command, with the events that accepted and ended it. No table is looked at.
 use Prim.Native.Nat.{ℕ, suc, _+_}
 use mathlib.Core.Path.{_≡_}
-use mathlib.Core.Bool.{Bool, true, false, cond, _&&_, _||_}
+use mathlib.Core.Bool.{Bool, true, false, cond, _||_}
 use mathlib.Core.List.{List, [], _∷_, _++_, map}
 use mathlib.Core.Option.{some}
 use lib.ListN.{length}
 use lib.Dec.{eqb}
 use Rattle.task.specs.Index.{one}
-use Rattle.task.specs.Selections.{picks}
 use Rattle.task.specs.declared.Task.{Task}
-use Rattle.task.specs.declared.select.Selection.{Selection}
-use Rattle.table.specs.Tables.{runs}
-use Rattle.history.specs.Trace.{Told, nth, Label, isStatus, Effect, Nothing, Accepts, Starts, Ends, did}
+use Rattle.history.specs.Trace.{Told, nth, Label, isStatus, Effect, Nothing, Accepts, Starts, Finishes, Restarts, Ends, Fate, stays, becomes, ended, fateOf, did}
 
 -- an ending: the number of the event, and how it ended the command
 pub record Ending : Type 0 where
   pub event : ℕ
   pub how : Label
 
--- an accepted command: its path, tag, unit, kind and arrival number and whether it waits or runs; the number of the event that accepted it; its endings, oldest first
+-- an accepted command: its path, tag, unit, kind and arrival number, whether it had CONFIRM, whether it waits, runs or waits to be confirmed, and after how many bytes or
+-- from which offset; the number of the event that accepted it; its endings, oldest first
 pub record Entry : Type 0 where
   pub task : Task
   pub accepted : ℕ
@@ -41,23 +39,29 @@ timesEnded e = length (e .endings)
 abbrev pub newEntry : ℕ → Task → Entry
 newEntry n a = record { task = a; accepted = n; endings = [] }
 
--- the open command with the arrival number runs
-unfoldable pub running : ℕ → Entry → Entry
-running arrival e = cond (isOpen e && eqb (e .task .arrival) arrival) (record { task = runs (e .task); accepted = e .accepted; endings = e .endings }) e
+-- What a fate does to an entry. Only an open command goes on in another way, and only an open one is ended by management or reset. A finish or a confirmation names one command
+-- by its arrival number, and what it ends by status is an ending even where the command was ended before, whether it ran then or still waited: that this never happens is not
+-- built into the ledger, and the theorem says it.
+abbrev pub met : ℕ → Fate → Entry → Entry
+met n stays e = e
+met n (becomes a) e = cond (isOpen e) (record { task = a; accepted = e .accepted; endings = e .endings }) e
+met n (ended how) e =
+    cond (isOpen e || isStatus how) (record { task = e .task; accepted = e .accepted; endings = e .endings ++ (record { event = n; how = how } ∷ []) }) e
 
--- Every open command that is picked is ended. A finish names one command by its arrival number, and a STATUS for it is an ending even where the command was ended before,
--- whether it ran then or still waited: that this never happens is not built into the ledger, and the theorem says it.
-unfoldable pub marked : ℕ → Selection → Label → Entry → Entry
-marked n s how e =
-    cond (picks s (e .task) && (isOpen e || isStatus how))
-    (record { task = e .task; accepted = e .accepted; endings = e .endings ++ (record { event = n; how = how } ∷ []) })
-    e
+unfoldable pub meeting : ℕ → Effect → Entry → Entry
+meeting n effect e = met n (fateOf effect (e .task)) e
 
-abbrev pub noted : ℕ → Effect → List Entry → List Entry
-noted n Nothing l = l
-noted n (Accepts a) l = l ++ (newEntry n a ∷ [])
-noted n (Starts arrival) l = map (running arrival) l
-noted n (Ends s how) l = map (marked n s how) l
+-- the entry of the command that is accepted, if one is
+abbrev pub coming : ℕ → Effect → List Entry
+coming n Nothing = []
+coming n (Accepts a) = newEntry n a ∷ []
+coming n (Starts arrival) = []
+coming n (Finishes arrival transferred) = []
+coming n (Restarts s offset) = []
+coming n (Ends s how) = []
+
+unfoldable pub noted : ℕ → Effect → List Entry → List Entry
+noted n effect l = map (meeting n effect) l ++ coming n effect
 
 -- the ledger l after further events, of which the first has number n
 unfoldable pub ledgerFrom : List ℕ → ℕ → List Entry → List Told → List Entry
@@ -90,6 +94,8 @@ abbrev pub acceptsFrom : ℕ → Effect → Bool
 acceptsFrom p Nothing = false
 acceptsFrom p (Accepts a) = isFrom p a
 acceptsFrom p (Starts arrival) = false
+acceptsFrom p (Finishes arrival transferred) = false
+acceptsFrom p (Restarts s offset) = false
 acceptsFrom p (Ends s how) = false
 
 -- how many commands from the path at p a trace accepts: counted over its events, and not over the ledger

@@ -11,21 +11,17 @@ use Rattle.wire.specs.Messages.{readOf}
 use Rattle.wire.specs.declared.codes.StatusByte.{StatusByte}
 use Rattle.wire.specs.declared.codes.Sense.{Sense}
 use Rattle.task.specs.Index.{first}
-use Rattle.task.specs.Selections.{select, everyTask}
+use Rattle.task.specs.Tasks.{runs, awaits, restarts}
+use Rattle.task.specs.Selections.{picks, everyTask, numberedAs}
 use Rattle.task.specs.declared.Kind.{Kind}
 use Rattle.task.specs.declared.Phase.the-variants.{Waiting}
 use Rattle.task.specs.declared.Task.{Task}
-use Rattle.task.specs.declared.select.Number.the-variants.{Exactly}
-use Rattle.task.specs.declared.select.Whose.the-variants.{Anyone}
-use Rattle.task.specs.declared.select.Place.the-variants.{Anywhere}
-use Rattle.task.specs.declared.select.Sort.the-variants.{AnyKind}
-use Rattle.task.specs.declared.select.Stage.the-variants.{AnyPhase}
 use Rattle.task.specs.declared.select.Selection.{Selection}
 use Rattle.rules.specs.Management.{endsOf}
 use Rattle.plan.specs.Plans.{askedOf, kindOf}
 use Rattle.rules.specs.declared.manage.Order.{Order}
 use Rattle.rules.specs.declared.manage.Order.the-variants.{AbortTask, AbortTaskSet, ClearTaskSet, ClearAca, UnitReset, TargetReset}
-use Rattle.plan.specs.declared.What.the-variants.{Command, Manage}
+use Rattle.plan.specs.declared.What.the-variants.{Command, Manage, Confirm}
 use Rattle.plan.specs.declared.Asked.{Asked}
 use Rattle.plan.specs.declared.Asked.the-variants.{By, Unread}
 use Rattle.plan.specs.declared.Answer.{Answer}
@@ -37,7 +33,7 @@ use Rattle.plan.specs.declared.Answer.the-variants as answer
 pub data Event : Type 0 where
   Message : (m buf : List ℕ) → Event
   Start : (unit : ℕ) → Event
-  Finish : (arrival : ℕ) (status : StatusByte) (sense : Sense) (buf : List ℕ) → Event
+  Finish : (arrival : ℕ) (status : StatusByte) (sense : Sense) (transferred : ℕ) (buf : List ℕ) → Event
   TotalReset : Event
 
 -- an event and what was answered
@@ -57,7 +53,7 @@ unfoldable pub eventAt : List Told → ℕ → Option Told
 eventAt h zero = none
 eventAt h (suc k) = nth h k
 
--- ---- how a command is ended: by the STATUS of its finish, by the order of a message, or by the drive's total reset
+-- ---- how a command is ended: by status (the STATUS of its finish, or with CONFIRM the confirmation of it), by the order of a message, or by the drive's total reset
 
 pub data Label : Type 0 where
   byStatus byTotalReset : Label
@@ -87,27 +83,64 @@ isReset byStatus = false
 isReset byTotalReset = true
 isReset (byOrder o) = resets o
 
--- ---- what an event so answered does: nothing to the commands; it accepts one; it starts the one with an arrival number; it ends what a selection picks
+-- ---- what an event so answered does: nothing to the commands; it accepts one; it starts, or finishes after so many bytes, the one with an arrival number;
+-- it has what a selection picks wait again, to start at an offset; it ends what a selection picks
 
 pub data Effect : Type 0 where
   Nothing : Effect
   Accepts : Task → Effect
   Starts : (arrival : ℕ) → Effect
+  Finishes : (arrival transferred : ℕ) → Effect
+  Restarts : Selection → (offset : ℕ) → Effect
   Ends : Selection → Label → Effect
+
+-- what that comes to for one command: it stays as it is, goes on in another way, or is ended
+pub data Fate : Type 0 where
+  stays : Fate
+  becomes : Task → Fate
+  ended : Label → Fate
+
+-- a finish leaves a command with CONFIRM waiting to be confirmed and ends any other: which it is, its command said
+abbrev pub finishFate : ℕ → Task → Fate
+finishFate transferred a = cond (a .confirm) (becomes (awaits transferred a)) (ended byStatus)
+
+unfoldable pub fateOf : Effect → Task → Fate
+fateOf Nothing a = stays
+fateOf (Accepts b) a = stays
+fateOf (Starts n) a = cond (eqb (a .arrival) n) (becomes (runs a)) stays
+fateOf (Finishes n transferred) a = cond (eqb (a .arrival) n) (finishFate transferred a) stays
+fateOf (Restarts s offset) a = cond (picks s a) (becomes (restarts offset a)) stays
+fateOf (Ends s how) a = cond (picks s a) (ended how) stays
 
 -- the place of an id in setup's list, counted from 0; past the list where it is not there
 unfoldable pub placeIn : List ℕ → ℕ → ℕ
 placeIn ids id = first (length ids) (λ p. eqb (getD ids p 0) id)
 
 -- a command from the path at p is accepted where the answer says so, under the number that the answer names
-abbrev pub commandEffect : ℕ → ℕ → ℕ → Kind → Answer → Effect
-commandEffect p tag lun kind answer.Ready = Nothing
-commandEffect p tag lun kind (answer.Accepted n) = Accepts (record { arrival = n; tag = tag; path = p; unit = lun; kind = kind; phase = Waiting })
-commandEffect p tag lun kind (answer.Response t code) = Nothing
-commandEffect p tag lun kind (answer.Status t status sense) = Nothing
-commandEffect p tag lun kind (answer.Started n) = Nothing
-commandEffect p tag lun kind answer.Reset = Nothing
-commandEffect p tag lun kind (answer.Refused n) = Nothing
+abbrev pub acceptedTask : ℕ → ℕ → ℕ → Kind → Bool → ℕ → Task
+acceptedTask p tag lun kind confirm n = record {
+  arrival = n;
+  transferred = 0;
+  offset = 0;
+  tag = tag;
+  path = p;
+  unit = lun;
+  kind = kind;
+  phase = Waiting;
+  confirm = confirm;
+}
+
+abbrev pub commandEffect : ℕ → ℕ → ℕ → Kind → Bool → Answer → Effect
+commandEffect p tag lun kind confirm answer.Ready = Nothing
+commandEffect p tag lun kind confirm (answer.Accepted n) = Accepts (acceptedTask p tag lun kind confirm n)
+commandEffect p tag lun kind confirm (answer.Response t code) = Nothing
+commandEffect p tag lun kind confirm (answer.Status t status sense) = Nothing
+commandEffect p tag lun kind confirm (answer.Invalid t) = Nothing
+commandEffect p tag lun kind confirm (answer.Started offset n) = Nothing
+commandEffect p tag lun kind confirm (answer.Confirmed n) = Nothing
+commandEffect p tag lun kind confirm (answer.Restarted n) = Nothing
+commandEffect p tag lun kind confirm answer.Reset = Nothing
+commandEffect p tag lun kind confirm (answer.Refused n) = Nothing
 
 -- an order ends what it selects where it is answered by RESPONSE 00h
 abbrev pub orderEffect : ℕ → Order → Answer → Effect
@@ -115,14 +148,31 @@ orderEffect p o answer.Ready = Nothing
 orderEffect p o (answer.Accepted n) = Nothing
 orderEffect p o (answer.Response t code) = cond (eqb (code .0) (Paper.done .0)) (Ends (endsOf p o) (byOrder o)) Nothing
 orderEffect p o (answer.Status t status sense) = Nothing
-orderEffect p o (answer.Started n) = Nothing
+orderEffect p o (answer.Invalid t) = Nothing
+orderEffect p o (answer.Started offset n) = Nothing
+orderEffect p o (answer.Confirmed n) = Nothing
+orderEffect p o (answer.Restarted n) = Nothing
 orderEffect p o answer.Reset = Nothing
 orderEffect p o (answer.Refused n) = Nothing
 
+-- CONFIRM STATUS from the path at p ends the command with its tag and the number that the answer names, or has it wait again at the offset
+abbrev pub confirmEffect : ℕ → ℕ → ℕ → Answer → Effect
+confirmEffect p tag offset answer.Ready = Nothing
+confirmEffect p tag offset (answer.Accepted n) = Nothing
+confirmEffect p tag offset (answer.Response t code) = Nothing
+confirmEffect p tag offset (answer.Status t status sense) = Nothing
+confirmEffect p tag offset (answer.Invalid t) = Nothing
+confirmEffect p tag offset (answer.Started o n) = Nothing
+confirmEffect p tag offset (answer.Confirmed n) = Ends (numberedAs n p tag) byStatus
+confirmEffect p tag offset (answer.Restarted n) = Restarts (numberedAs n p tag) offset
+confirmEffect p tag offset answer.Reset = Nothing
+confirmEffect p tag offset (answer.Refused n) = Nothing
+
 abbrev pub messageEffect : List ℕ → Asked → Answer → Effect
 messageEffect ids (Unread n) a = Nothing
-messageEffect ids (By path tag (Command lun flags)) a = commandEffect (placeIn ids path) tag lun (kindOf (flags .queue)) a
+messageEffect ids (By path tag (Command lun flags)) a = commandEffect (placeIn ids path) tag lun (kindOf (flags .queue)) (flags .confirm) a
 messageEffect ids (By path tag (Manage o)) a = orderEffect (placeIn ids path) o a
+messageEffect ids (By path tag (Confirm offset complete)) a = confirmEffect (placeIn ids path) tag offset a
 
 -- a start starts the command whose number the answer names
 abbrev pub startEffect : Answer → Effect
@@ -130,23 +180,25 @@ startEffect answer.Ready = Nothing
 startEffect (answer.Accepted n) = Nothing
 startEffect (answer.Response t code) = Nothing
 startEffect (answer.Status t status sense) = Nothing
-startEffect (answer.Started n) = Starts n
+startEffect (answer.Invalid t) = Nothing
+startEffect (answer.Started offset n) = Starts n
+startEffect (answer.Confirmed n) = Nothing
+startEffect (answer.Restarted n) = Nothing
 startEffect answer.Reset = Nothing
 startEffect (answer.Refused n) = Nothing
 
--- the command with an arrival number, whether it waits or runs
-abbrev pub numbered : ℕ → Selection
-numbered arrival = select (Exactly arrival) Anyone Anywhere AnyKind AnyPhase
-
--- a finish that is answered by a STATUS ends the command with the number that it names. The engine answers so where that command runs; the trace takes the STATUS at its word
-abbrev pub finishEffect : ℕ → Answer → Effect
-finishEffect arrival answer.Ready = Nothing
-finishEffect arrival (answer.Accepted n) = Nothing
-finishEffect arrival (answer.Response t code) = Nothing
-finishEffect arrival (answer.Status t status sense) = Ends (numbered arrival) byStatus
-finishEffect arrival (answer.Started n) = Nothing
-finishEffect arrival answer.Reset = Nothing
-finishEffect arrival (answer.Refused n) = Nothing
+-- a finish that is answered by a STATUS finishes the command with the number that it names. The engine answers so where that command runs; the trace takes the STATUS at its word
+abbrev pub finishEffect : ℕ → ℕ → Answer → Effect
+finishEffect arrival transferred answer.Ready = Nothing
+finishEffect arrival transferred (answer.Accepted n) = Nothing
+finishEffect arrival transferred (answer.Response t code) = Nothing
+finishEffect arrival transferred (answer.Status t status sense) = Finishes arrival transferred
+finishEffect arrival transferred (answer.Invalid t) = Nothing
+finishEffect arrival transferred (answer.Started offset n) = Nothing
+finishEffect arrival transferred (answer.Confirmed n) = Nothing
+finishEffect arrival transferred (answer.Restarted n) = Nothing
+finishEffect arrival transferred answer.Reset = Nothing
+finishEffect arrival transferred (answer.Refused n) = Nothing
 
 -- a total reset that is answered by `reset` ends every command
 abbrev pub resetEffect : Answer → Effect
@@ -154,7 +206,10 @@ resetEffect answer.Ready = Nothing
 resetEffect (answer.Accepted n) = Nothing
 resetEffect (answer.Response t code) = Nothing
 resetEffect (answer.Status t status sense) = Nothing
-resetEffect (answer.Started n) = Nothing
+resetEffect (answer.Invalid t) = Nothing
+resetEffect (answer.Started offset n) = Nothing
+resetEffect (answer.Confirmed n) = Nothing
+resetEffect (answer.Restarted n) = Nothing
 resetEffect answer.Reset = Ends everyTask byTotalReset
 resetEffect (answer.Refused n) = Nothing
 
@@ -162,7 +217,7 @@ resetEffect (answer.Refused n) = Nothing
 abbrev pub effectOf : List ℕ → Event → Answer → Effect
 effectOf ids (Message m buf) a = messageEffect ids (askedOf (readOf m)) a
 effectOf ids (Start unit) a = startEffect a
-effectOf ids (Finish arrival status sense buf) a = finishEffect arrival a
+effectOf ids (Finish arrival status sense transferred buf) a = finishEffect arrival transferred a
 effectOf ids TotalReset a = resetEffect a
 
 -- what an event of a trace did

@@ -1,17 +1,18 @@
--- Two hosts that count their tags alike: the transcript examples/two-hosts as events, and the ledger of the engine's calls on it.
+-- Two hosts that count their tags alike: the transcripts examples/two-hosts and examples/confirmed-two-hosts as events, and the ledgers of the engine's calls on them.
 use Prim.Native.Nat.{ℕ}
 use mathlib.Core.Path.{_≡_}
+use mathlib.Core.Bool.{Bool, true, false}
 use mathlib.Core.List.{List, [], _∷_}
 use lib.ListN.{replicate}
 use Rattle.wire.specs.Paper
 use Rattle.task.specs.declared.Kind.the-variants.{Simple}
 use Rattle.task.specs.declared.Phase.{Phase}
-use Rattle.task.specs.declared.Phase.the-variants.{Waiting, Running}
+use Rattle.task.specs.declared.Phase.the-variants.{Waiting, Running, Unconfirmed}
 use Rattle.task.specs.declared.Task.{Task}
 use Rattle.table.specs.declared.Table.{Table}
 use Rattle.engine.specs.Calls.{setupOf}
 use Rattle.rules.specs.declared.manage.Order.the-variants.{AbortTask}
-use Rattle.history.specs.Trace.{Event, Message, Start, Finish, byStatus, byOrder}
+use Rattle.history.specs.Trace.{Event, Message, Start, Finish, Label, byStatus, byOrder}
 use Rattle.history.specs.Ledger.{Entry, ledger}
 use Rattle.history.specs.Demand.{told}
 use Rattle.history.specs.Drives.{engine, callsOf}
@@ -26,9 +27,19 @@ fresh = setupOf hosts 0x01 1 .table
 abbrev pub buffer : List ℕ
 buffer = replicate 64 0
 
--- a SIMPLE command for unit 0 from host 1 or 2 (ids 0101h and 0202h) with a tag
+-- a command for unit 0 from host 1 or 2 (ids 0101h and 0202h) with a tag and byte 10: a SIMPLE one, and one with CONFIRM
+abbrev pub sends : ℕ → ℕ → ℕ → List ℕ → Event
+sends flags host tag cdb = Message (0x83 ∷ 0x10 ∷ 0 ∷ tag ∷ 0 ∷ 0 ∷ host ∷ host ∷ 0 ∷ 0 ∷ flags ∷ 0 ∷ 0 ∷ 0 ∷ 0 ∷ 0 ∷ cdb) buffer
+
 abbrev pub command : ℕ → ℕ → List ℕ → Event
-command host tag cdb = Message (0x83 ∷ 0x10 ∷ 0 ∷ tag ∷ 0 ∷ 0 ∷ host ∷ host ∷ 0 ∷ 0 ∷ 3 ∷ 0 ∷ 0 ∷ 0 ∷ 0 ∷ 0 ∷ cdb) buffer
+command = sends 0x03
+
+abbrev pub confirmable : ℕ → ℕ → List ℕ → Event
+confirmable = sends 0x13
+
+-- CONFIRM STATUS with COMPLETE from a host for a tag
+abbrev pub confirm : ℕ → ℕ → Event
+confirm host tag = Message (0x83 ∷ 0x12 ∷ 0 ∷ tag ∷ 0 ∷ 0 ∷ host ∷ host ∷ 0 ∷ 0 ∷ host ∷ host ∷ 0 ∷ 0 ∷ 0 ∷ 0 ∷ 0x80 ∷ []) buffer
 
 abbrev pub testUnit : List ℕ
 testUnit = replicate 6 0
@@ -43,15 +54,38 @@ abort host tag tag2 = Message (0x83 ∷ 0x30 ∷ 0 ∷ tag ∷ 0 ∷ 0 ∷ host 
 -- both learn of the reset; both write under tag 0001h; host 1 aborts its write, and once more; unit 0 starts; command 2 is finished
 unfoldable pub twoHosts : List Event
 twoHosts =
-    command 1 0 testUnit ∷ command 2 0 testUnit ∷ command 1 1 write ∷ command 2 1 write ∷ abort 1 2 1 ∷ abort 1 3 1 ∷ Start 0 ∷ Finish 2 Paper.good Paper.noSense buffer ∷ []
+    command 1 0 testUnit ∷ command 2 0 testUnit ∷ command 1 1 write ∷ command 2 1 write ∷ abort 1 2 1 ∷ abort 1 3 1 ∷ Start 0 ∷ Finish 2 Paper.good Paper.noSense 0 buffer ∷ []
 
-abbrev pub written : ℕ → ℕ → Phase → Task
-written arrival p phase = record { arrival = arrival; tag = 1; path = p; unit = 0; kind = Simple; phase = phase }
+abbrev pub written : ℕ → ℕ → Phase → Bool → ℕ → Task
+written arrival p phase confirm transferred = record {
+  arrival = arrival;
+  transferred = transferred;
+  offset = 0;
+  tag = 1;
+  path = p;
+  unit = 0;
+  kind = Simple;
+  phase = phase;
+  confirm = confirm;
+}
+
+abbrev pub entry : Task → ℕ → ℕ → Label → Entry
+entry a accepted event how = record { task = a; accepted = accepted; endings = record { event = event; how = how } ∷ [] }
 
 -- host 1's write was accepted by event 3 and ended by event 5, its own abort; host 2's was accepted by event 4 and ended by event 8, its status
 abbrev pub TwoHostsLedger : Type 0
 TwoHostsLedger =
     _≡_ {A = List Entry} (ledger hosts (told (callsOf engine fresh twoHosts)))
-    (record { task = written 1 0 Waiting; accepted = 3; endings = record { event = 5; how = byOrder (AbortTask 1) } ∷ [] }
-    ∷ record { task = written 2 1 Running; accepted = 4; endings = record { event = 8; how = byStatus } ∷ [] }
-    ∷ [])
+    (entry (written 1 0 Waiting false 0) 3 5 (byOrder (AbortTask 1)) ∷ entry (written 2 1 Running false 0) 4 8 byStatus ∷ [])
+
+-- both write with CONFIRM under tag 0001h; host 1's is finished after 512 bytes; host 2 aborts its own, and once more, and would confirm; host 1 confirms
+unfoldable pub confirmedTwoHosts : List Event
+confirmedTwoHosts =
+    command 1 0 testUnit ∷ command 2 0 testUnit ∷ confirmable 1 1 write ∷ confirmable 2 1 write ∷ Start 0 ∷ Finish 1 Paper.good Paper.noSense 512 buffer
+    ∷ abort 2 2 1 ∷ abort 2 3 1 ∷ confirm 2 1 ∷ confirm 1 1 ∷ []
+
+-- host 1's write was accepted by event 3 and ended by event 10, its confirmation, not by event 6, its finish; host 2's was accepted by event 4 and ended by event 7, its own abort
+abbrev pub ConfirmedLedger : Type 0
+ConfirmedLedger =
+    _≡_ {A = List Entry} (ledger hosts (told (callsOf engine fresh confirmedTwoHosts)))
+    (entry (written 1 0 Unconfirmed true 512) 3 10 byStatus ∷ entry (written 2 1 Waiting true 0) 4 7 (byOrder (AbortTask 1)) ∷ [])

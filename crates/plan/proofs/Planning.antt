@@ -1,34 +1,79 @@
--- The plan for a ruling, an order and what is asked: a lemma for each way out of the functions of `plan`. Assumes nothing.
-use Prim.Native.Nat.{ℕ}
-use mathlib.Core.Path.{_≡_}
+-- What a message asks, and the plan for a ruling, an order, a confirmation and what is asked: a lemma for each way out of the functions of `plan`. Assumes nothing.
+use Prim.Native.Nat.{ℕ, _<_, _≤_}
+use mathlib.Core.Path.{_≡_, _∙_}
+use mathlib.Core.Bool.{Bool, true, false, not}
 use mathlib.Core.List.{List}
-use borrow.Author.Tests.{eq-eqb, ne-eqb}
+use borrow.Author.Tests.{not-true, not-false, lt-ltb, le-ltb, eq-eqb, ne-eqb}
 use Rattle.wire.specs.Paper
+use Rattle.wire.specs.Messages.{reservedSet}
 use Rattle.wire.specs.declared.codes.Queue.{Queue}
 use Rattle.wire.specs.declared.codes.Refusal.{Refusal}
 use Rattle.wire.specs.declared.codes.ReturnCode.{ReturnCode}
 use Rattle.wire.specs.declared.codes.Sense.{Sense}
 use Rattle.wire.specs.declared.codes.StatusByte.{StatusByte}
 use Rattle.wire.specs.declared.message.Flags.{Flags}
+use Rattle.wire.specs.declared.message.Message.{Message}
+use Rattle.wire.specs.declared.message.Message.the-variants as message
+use Rattle.task.specs.Selections.{numberedAs}
 use Rattle.task.specs.declared.Kind.{Kind}
 use Rattle.task.specs.declared.Kind.the-variants as kind
+use Rattle.task.specs.declared.Phase.the-variants as phase
+use Rattle.task.specs.declared.scan.Pick.{Pick}
 use Rattle.task.specs.declared.select.Selection.{Selection}
 use Rattle.rules.specs.Rules.{deciding, decision}
 use Rattle.rules.specs.Management.{endsOf, orderCode}
 use Rattle.rules.specs.declared.rules.Facts.{Facts}
+use Rattle.rules.specs.declared.rules.Seen.{Seen}
 use Rattle.rules.specs.declared.rules.Mood.{Mood}
 use Rattle.rules.specs.declared.rules.Mood.the-variants.{Unmark}
 use Rattle.rules.specs.declared.rules.Ruling.{Ruling}
-use Rattle.rules.specs.declared.rules.Ruling.the-variants.{Refuse, Respond, Report, Accept}
+use Rattle.rules.specs.declared.rules.Ruling.the-variants.{Refuse, Respond, Report, Invalid, Accept}
 use Rattle.rules.specs.declared.rules.Decision.{Decision}
 use Rattle.rules.specs.declared.manage.Order.{Order}
-use Rattle.plan.specs.Plans.{kindOf, planned, refusing, ruled, orderPlan, planOf}
+use Rattle.rules.specs.declared.manage.Order.the-variants as order
+use Rattle.plan.specs.Plans.{askedOf, kindOf, planned, refusing, ruled, orderPlan, isAwaited, confirmPlan, planOf}
 use Rattle.plan.specs.declared.What.{What}
-use Rattle.plan.specs.declared.What.the-variants.{Command, Manage}
+use Rattle.plan.specs.declared.What.the-variants.{Command, Manage, Confirm}
+use Rattle.plan.specs.declared.Asked.{Asked}
+use Rattle.plan.specs.declared.Asked.the-variants.{By, Unread}
 use Rattle.plan.specs.declared.Change.the-variants as change
 use Rattle.plan.specs.declared.Deed.the-variants as deed
 use Rattle.plan.specs.declared.Plan.{Plan}
 use Rattle.plan.specs.declared.Answer.the-variants as answer
+
+-- ---- what a message asks
+
+module _ {g : Message} {tag path : ℕ} where
+  pub asks-command : {lun : ℕ} {flags : Flags} → g ≡ message.Command tag path lun flags → By path tag (Command lun flags) ≡ askedOf g
+  asks-command e = rw e
+
+  pub asks-confirm : {newPath offset : ℕ} {complete : Bool} → g ≡ message.ConfirmStatus tag path newPath offset complete → By path tag (Confirm offset complete) ≡ askedOf g
+  asks-confirm e = rw e
+
+  module _ {r : Asked} where
+    pub asks-reset : g ≡ message.TargetReset tag path → r ≡ By path tag (Manage order.TargetReset) → r ≡ askedOf g
+    asks-reset e h = rw e h
+
+    module _ {n : ℕ} where
+      pub asks-abort : g ≡ message.AbortTask tag path n → r ≡ By path tag (Manage (order.AbortTask n)) → r ≡ askedOf g
+      asks-abort e h = rw e h
+
+      pub asks-abort-set : g ≡ message.AbortTaskSet tag path n → r ≡ By path tag (Manage (order.AbortTaskSet n)) → r ≡ askedOf g
+      asks-abort-set e h = rw e h
+
+      pub asks-clear-set : g ≡ message.ClearTaskSet tag path n → r ≡ By path tag (Manage (order.ClearTaskSet n)) → r ≡ askedOf g
+      asks-clear-set e h = rw e h
+
+      pub asks-clear-aca : g ≡ message.ClearAca tag path n → r ≡ By path tag (Manage (order.ClearAca n)) → r ≡ askedOf g
+      asks-clear-aca e h = rw e h
+
+      pub asks-unit-reset : g ≡ message.UnitReset tag path n → r ≡ By path tag (Manage (order.UnitReset n)) → r ≡ askedOf g
+      asks-unit-reset e h = rw e h
+
+pub asks-nothing : {g : Message} {n : Refusal} → g ≡ message.Refused n → Unread n ≡ askedOf g
+asks-nothing e = rw e
+
+pub ruleset asked-cases = (asks-command, asks-confirm, asks-reset, asks-abort, asks-abort-set, asks-clear-set, asks-clear-aca, asks-unit-reset, asks-nothing)
 
 -- ---- QUEUE CNTL
 
@@ -60,10 +105,13 @@ module _ (next p tag lun : ℕ) (flags : Flags) {r : Ruling} where
   pub reports : {status : StatusByte} {sense : Sense} {mood : Mood} → r ≡ Report status sense mood → planned (answer.Status tag status sense) (change.Sender p mood) deed.Nothing ≡ ruled next p tag lun flags r
   reports e = rw e
 
-  pub takes : {k : Kind} → r ≡ Accept → k ≡ kindOf (flags .queue) → planned (answer.Accepted next) (change.Sender p Unmark) (deed.Accept p tag lun k) ≡ ruled next p tag lun flags r
+  pub faults : {mood : Mood} → r ≡ Invalid mood → planned (answer.Invalid tag) (change.Sender p mood) deed.Nothing ≡ ruled next p tag lun flags r
+  faults e = rw e
+
+  pub takes : {k : Kind} → r ≡ Accept → k ≡ kindOf (flags .queue) → planned (answer.Accepted next) (change.Sender p Unmark) (deed.Accept p tag lun k (flags .confirm)) ≡ ruled next p tag lun flags r
   takes e h = rw (e, h)
 
-pub ruleset ruled-cases = (refuses, responds, reports, takes)
+pub ruleset ruled-cases = (refuses, responds, reports, faults, takes)
 
 -- an order, by its return code
 module _ (f : Facts) (p tag : ℕ) (m : List ℕ) (o : Order) {code : ReturnCode} (e : code ≡ orderCode f m o) where
@@ -71,18 +119,67 @@ module _ (f : Facts) (p tag : ℕ) (m : List ℕ) (o : Order) {code : ReturnCode
   unfolding orderPlan
   done h k = rw (h, ← e, eq-eqb _ _ k)
 
-  pub not-done : (code .0 ≡ Paper.done .0 → ⊥) → planned (answer.Response tag code) change.Nothing deed.Nothing ≡ orderPlan f p tag m o
+  pub not-done : {pl : Plan} → (code .0 ≡ Paper.done .0 → ⊥) → pl ≡ planned (answer.Response tag code) change.Nothing deed.Nothing → pl ≡ orderPlan f p tag m o
   unfolding orderPlan
-  not-done k = rw (← e, ne-eqb _ _ k)
+  not-done k h = h ∙ rw (← e, ne-eqb _ _ k)
 
 pub ruleset order-cases = (done, not-done)
 
+-- whether a task was picked that waits to be confirmed
+module _ (own : Pick) where
+  pub none-picked : not (own .found) ≡ true → false ≡ isAwaited own
+  none-picked h = rw (not-true (own .found) h)
+
+  module _ (h : not (own .found) ≡ false) where
+    pub still-waits : own .task .phase ≡ phase.Waiting → false ≡ isAwaited own
+    still-waits e = rw (not-false (own .found) h, e)
+
+    pub still-runs : own .task .phase ≡ phase.Running → false ≡ isAwaited own
+    still-runs e = rw (not-false (own .found) h, e)
+
+    pub awaits : own .task .phase ≡ phase.Unconfirmed → true ≡ isAwaited own
+    awaits e = rw (not-false (own .found) h, e)
+
+pub ruleset awaited-cases = (none-picked, still-waits, still-runs, awaits)
+
+-- a confirmation, test by test
+module _ (own : Pick) (p tag : ℕ) (m : List ℕ) (offset : ℕ) (complete : Bool) {b : Bool} (e : b ≡ reservedSet m) where
+  pub confirms-reserved : {pl : Plan} → b ≡ true → pl ≡ planned (answer.Response tag Paper.invalidField) change.Nothing deed.Nothing → pl ≡ confirmPlan own p tag m offset complete
+  unfolding confirmPlan
+  confirms-reserved h k = rw (← e, h) k
+
+  module _ (h : b ≡ false) {w : Bool} (a : w ≡ isAwaited own) where
+    pub confirms-none : {pl : Plan} → not w ≡ true → pl ≡ refusing Paper.nothingToConfirm → pl ≡ confirmPlan own p tag m offset complete
+    unfolding confirmPlan
+    confirms-none i k = rw (← e, h, ← a, i) k
+
+    module _ (i : not w ≡ false) where
+      pub completes : {s : Selection} → complete ≡ true → s ≡ numberedAs (own .task .arrival) p tag
+          → planned (answer.Confirmed (own .task .arrival)) change.Nothing (deed.End s) ≡ confirmPlan own p tag m offset complete
+      unfolding confirmPlan
+      completes j k = rw (k, ← e, h, ← a, i, j)
+
+      pub confirms-past : {pl : Plan} → complete ≡ false → own .task .transferred < offset → pl ≡ planned (answer.Response tag Paper.invalidField) change.Nothing deed.Nothing
+          → pl ≡ confirmPlan own p tag m offset complete
+      unfolding confirmPlan
+      confirms-past j l k = rw (← e, h, ← a, i, j, lt-ltb _ _ l) k
+
+      pub restarts : complete ≡ false → offset ≤ own .task .transferred
+          → planned (answer.Restarted (own .task .arrival)) change.Nothing (deed.Restart (own .at) offset) ≡ confirmPlan own p tag m offset complete
+      unfolding confirmPlan
+      restarts j l = rw (← e, h, ← a, i, j, le-ltb _ _ l)
+
+pub ruleset confirm-cases = (confirms-reserved, confirms-none, completes, confirms-past, restarts)
+
 -- what is asked
-module _ (f : Facts) (next p tag : ℕ) (m : List ℕ) {w : What} {pl : Plan} where
-  pub by-rules : {lun : ℕ} {flags : Flags} {d : Decision} → w ≡ Command lun flags → d ≡ decision (deciding f flags m) → pl ≡ ruled next p tag lun flags (d .ruling) → pl ≡ planOf f next p tag m w
+module _ (s : Seen) (next p tag : ℕ) (m : List ℕ) {w : What} {pl : Plan} where
+  pub by-rules : {lun : ℕ} {flags : Flags} {d : Decision} → w ≡ Command lun flags → d ≡ decision (deciding (s .facts) flags m) → pl ≡ ruled next p tag lun flags (d .ruling) → pl ≡ planOf s next p tag m w
   by-rules e h k = rw e (rw h at k)
 
-  pub by-order : {o : Order} → w ≡ Manage o → pl ≡ orderPlan f p tag m o → pl ≡ planOf f next p tag m w
+  pub by-order : {o : Order} → w ≡ Manage o → pl ≡ orderPlan (s .facts) p tag m o → pl ≡ planOf s next p tag m w
   by-order e k = rw e k
 
-pub ruleset plan-cases = (by-rules, by-order)
+  pub by-confirming : {offset : ℕ} {complete : Bool} → w ≡ Confirm offset complete → pl ≡ confirmPlan (s .own) p tag m offset complete → pl ≡ planOf s next p tag m w
+  by-confirming e k = rw e k
+
+pub ruleset plan-cases = (by-rules, by-order, by-confirming)

@@ -1,14 +1,18 @@
 -- The plan of an answer: what a message asks, what is answered, and what that does to paths and units (the change) and to the records (the deed).
 use Prim.Native.Nat.{ℕ}
-use mathlib.Core.Bool.{Bool, true, false, cond}
+use mathlib.Core.Bool.{Bool, true, false, cond, not, _&&_}
 use mathlib.Core.List.{List}
-use lib.Dec.{eqb}
+use lib.Dec.{eqb, ltb}
 use Rattle.wire.specs.Paper
+use Rattle.wire.specs.Messages.{reservedSet}
 use Rattle.wire.specs.declared.codes.Refusal.{Refusal}
 use Rattle.wire.specs.declared.codes.Queue.{Queue}
 use Rattle.wire.specs.declared.message.Flags.{Flags}
 use Rattle.wire.specs.declared.message.Message.{Message}
 use Rattle.wire.specs.declared.message.Message.the-variants as message
+use Rattle.task.specs.Tasks.{isUnconfirmed}
+use Rattle.task.specs.Selections.{numberedAs}
+use Rattle.task.specs.declared.scan.Pick.{Pick}
 use Rattle.task.specs.declared.Kind.{Kind}
 use Rattle.task.specs.declared.Kind.the-variants as kind
 use Rattle.table.specs.Tables.{markedIn, attendedIn}
@@ -17,14 +21,15 @@ use Rattle.table.specs.declared.Unit as unit
 use Rattle.rules.specs.Rules.{deciding}
 use Rattle.rules.specs.Management.{endsOf, tagOf, unitOf, isClearSet, orderCode, orderPaths, orderUnits}
 use Rattle.rules.specs.declared.rules.Facts.{Facts}
+use Rattle.rules.specs.declared.rules.Seen.{Seen}
 use Rattle.rules.specs.declared.rules.Mood.{Mood}
 use Rattle.rules.specs.declared.rules.Mood.the-variants.{Stay, Mark, Unmark, Attend}
 use Rattle.rules.specs.declared.rules.Ruling.{Ruling}
-use Rattle.rules.specs.declared.rules.Ruling.the-variants.{Refuse, Respond, Report, Accept}
+use Rattle.rules.specs.declared.rules.Ruling.the-variants.{Refuse, Respond, Report, Invalid, Accept}
 use Rattle.rules.specs.declared.manage.Order.{Order}
 use Rattle.rules.specs.declared.manage.Order.the-variants as order
 use Rattle.plan.specs.declared.What.{What}
-use Rattle.plan.specs.declared.What.the-variants.{Command, Manage}
+use Rattle.plan.specs.declared.What.the-variants.{Command, Manage, Confirm}
 use Rattle.plan.specs.declared.Asked.{Asked}
 use Rattle.plan.specs.declared.Asked.the-variants.{By, Unread}
 use Rattle.plan.specs.declared.Change.{Change}
@@ -35,10 +40,12 @@ use Rattle.plan.specs.declared.Plan.{Plan}
 use Rattle.plan.specs.declared.Answer.{Answer}
 use Rattle.plan.specs.declared.Answer.the-variants as answer
 
--- ---- what a message asks: its RETURN PATH ID, its TAG, and a command or an order; or the reader's refusal
+-- ---- what a message asks: its RETURN PATH ID (OLD RETURN PATH ID of CONFIRM STATUS), its TAG, and a command, an order or a confirmation; or the reader's refusal.
+-- NEW RETURN PATH ID is not looked at
 
 abbrev pub askedOf : Message → Asked
 askedOf (message.Command tag path lun flags) = By path tag (Command lun flags)
+askedOf (message.ConfirmStatus tag path newPath offset complete) = By path tag (Confirm offset complete)
 askedOf (message.AbortTask tag path tag2) = By path tag (Manage (order.AbortTask tag2))
 askedOf (message.AbortTaskSet tag path lun) = By path tag (Manage (order.AbortTaskSet lun))
 askedOf (message.ClearTaskSet tag path lun) = By path tag (Manage (order.ClearTaskSet lun))
@@ -47,18 +54,21 @@ askedOf (message.ClearAca tag path lun) = By path tag (Manage (order.ClearAca lu
 askedOf (message.UnitReset tag path lun) = By path tag (Manage (order.UnitReset lun))
 askedOf (message.Refused n) = Unread n
 
--- the tag and the unit that are asked about: a command's own, or those that an order names
+-- the tag and the unit that are asked about: the message's own, or those that an order names; 0 where there is no unit
 abbrev pub tagAsked : ℕ → What → ℕ
 tagAsked tag (Command lun flags) = tag
 tagAsked tag (Manage o) = tagOf o
+tagAsked tag (Confirm offset complete) = tag
 
 abbrev pub unitAsked : What → ℕ
 unitAsked (Command lun flags) = lun
 unitAsked (Manage o) = unitOf o
+unitAsked (Confirm offset complete) = 0
 
 abbrev pub clearsSet : What → Bool
 clearsSet (Command lun flags) = false
 clearsSet (Manage o) = isClearSet o
+clearsSet (Confirm offset complete) = false
 
 -- QUEUE CNTL
 abbrev pub kindOf : Queue → Kind
@@ -80,7 +90,8 @@ abbrev pub ruled : ℕ → ℕ → ℕ → ℕ → Flags → Ruling → Plan
 ruled next p tag lun flags (Refuse n) = refusing n
 ruled next p tag lun flags (Respond code mood) = planned (answer.Response tag code) (change.Sender p mood) deed.Nothing
 ruled next p tag lun flags (Report status sense mood) = planned (answer.Status tag status sense) (change.Sender p mood) deed.Nothing
-ruled next p tag lun flags Accept = planned (answer.Accepted next) (change.Sender p Unmark) (deed.Accept p tag lun (kindOf (flags .queue)))
+ruled next p tag lun flags (Invalid mood) = planned (answer.Invalid tag) (change.Sender p mood) deed.Nothing
+ruled next p tag lun flags Accept = planned (answer.Accepted next) (change.Sender p Unmark) (deed.Accept p tag lun (kindOf (flags .queue)) (flags .confirm))
 
 -- an order of the path at p changes the table only where it is answered 00h
 unfoldable pub orderPlan : Facts → ℕ → ℕ → List ℕ → Order → Plan
@@ -89,9 +100,24 @@ orderPlan f p tag m o =
     (planned (answer.Response tag (orderCode f m o)) (change.Besides (f .losers) o) (deed.End (endsOf p o)))
     (planned (answer.Response tag (orderCode f m o)) change.Nothing deed.Nothing)
 
-abbrev pub planOf : Facts → ℕ → ℕ → ℕ → List ℕ → What → Plan
-planOf f next p tag m (Command lun flags) = ruled next p tag lun flags (deciding f flags m .gives)
-planOf f next p tag m (Manage o) = orderPlan f p tag m o
+-- the sender's task with the tag waits to be confirmed: a waiting or running one does not
+abbrev pub isAwaited : Pick → Bool
+isAwaited own = own .found && isUnconfirmed (own .task .phase)
+
+-- CONFIRM STATUS: a reserved bit set gives FFh; no task that waits to be confirmed gives 15. COMPLETE set: the task is ended, BYTE OFFSET is not looked at.
+-- COMPLETE clear: an offset past the bytes transferred gives FFh; else the task waits again, to start there. Neither the mark nor the attention of the sender is looked at
+unfoldable pub confirmPlan : Pick → ℕ → ℕ → List ℕ → ℕ → Bool → Plan
+confirmPlan own p tag m offset complete =
+    cond (reservedSet m) (planned (answer.Response tag Paper.invalidField) change.Nothing deed.Nothing)
+    (cond (not (isAwaited own)) (refusing Paper.nothingToConfirm)
+    (cond complete (planned (answer.Confirmed (own .task .arrival)) change.Nothing (deed.End (numberedAs (own .task .arrival) p tag)))
+    (cond (ltb (own .task .transferred) offset) (planned (answer.Response tag Paper.invalidField) change.Nothing deed.Nothing)
+    (planned (answer.Restarted (own .task .arrival)) change.Nothing (deed.Restart (own .at) offset)))))
+
+abbrev pub planOf : Seen → ℕ → ℕ → ℕ → List ℕ → What → Plan
+planOf s next p tag m (Command lun flags) = ruled next p tag lun flags (deciding (s .facts) flags m .gives)
+planOf s next p tag m (Manage o) = orderPlan (s .facts) p tag m o
+planOf s next p tag m (Confirm offset complete) = confirmPlan (s .own) p tag m offset complete
 
 -- ---- what a change does to paths and units
 

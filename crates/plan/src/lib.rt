@@ -1,14 +1,20 @@
 // The plan: what a message asks, the answer to it, and what that does to the table. No table travels here.
 ghost use mathlib.Core.Path.{_≡_};
-ghost use Rattle.plan.specs.Plans.{askedOf, tagAsked, unitAsked, clearsSet, kindOf, planned, refusing, ruled, orderPlan, planOf, inMood, pathsAfter, unitsAfter};
+ghost use Rattle.task.specs.Selections.{numberedAs};
+ghost use Rattle.plan.specs.Plans.{askedOf, tagAsked, unitAsked, clearsSet, kindOf, planned, refusing, ruled, orderPlan, isAwaited, confirmPlan, planOf, inMood, pathsAfter, unitsAfter};
 use rules::manage::Order;
 use rules::rules::Facts;
 use rules::rules::Mood;
 use rules::rules::Ruling;
+use rules::rules::Seen;
 use table::Path;
 use table::Unit;
 use task::Kind;
+use task::Phase;
+use task::scan::Pick;
+use task::select::Number;
 use task::select::Selection;
+use task::select::Whose;
 use wire::codes::Queue;
 use wire::codes::Refusal;
 use wire::codes::ReturnCode;
@@ -17,10 +23,11 @@ use wire::codes::StatusByte;
 use wire::message::Flags;
 use wire::message::Message;
 
-// What is asked for: a command's queueing, or an order.
+// What is asked for: a command's queueing, an order, or what is to become of a task that waits to be confirmed.
 pub enum What {
     Command { lun: u8, flags: Flags },
     Manage(Order),
+    Confirm { offset: u32, complete: bool },
 }
 
 // Who asks for it, under which tag; or why nothing is heard.
@@ -49,9 +56,15 @@ pub enum Deed {
         tag: u16,
         lun: u8,
         kind: Kind,
+        confirm: bool,
     },
-    // An order ends all tasks of a selection.
+    // An order, or a confirmation, ends all tasks of a selection.
     End(Selection),
+    // The task in a record waits again, to start at an offset.
+    Restart {
+        place: usize,
+        offset: u32,
+    },
 }
 
 // What a call answers.
@@ -67,7 +80,15 @@ pub enum Answer {
         status: StatusByte,
         sense: Sense,
     },
-    Started(u64),
+    Invalid {
+        tag: u16,
+    },
+    Started {
+        offset: u32,
+        arrival: u64,
+    },
+    Confirmed(u64),
+    Restarted(u64),
     Reset,
     Refused(Refusal),
 }
@@ -104,6 +125,17 @@ pub fn ask(g: Message) -> Asked
             tag,
             what: What::Command { lun, flags },
         },
+        Message::ConfirmStatus {
+            tag,
+            path,
+            new_path: _,
+            offset,
+            complete,
+        } => Asked::By {
+            path,
+            tag,
+            what: What::Confirm { offset, complete },
+        },
         Message::AbortTask { tag, path, tag2 } => order(path, tag, Order::AbortTask(tag2)),
         Message::AbortTaskSet { tag, path, lun } => order(path, tag, Order::AbortTaskSet(lun)),
         Message::ClearTaskSet { tag, path, lun } => order(path, tag, Order::ClearTaskSet(lun)),
@@ -114,13 +146,17 @@ pub fn ask(g: Message) -> Asked
     }
 }
 
-// The tag and the unit that are asked about: a command's own, or those that an order names.
+// The tag and the unit that are asked about: the message's own, or those that an order names.
 pub fn tag_asked(tag: u16, w: What) -> u16
     ensures { λ r. ⌜ r ≡ tagAsked tag w ⌝ }
 {
     match w {
         What::Command { lun: _, flags: _ } => tag,
         What::Manage(o) => rules::manage::tag_of(o),
+        What::Confirm {
+            offset: _,
+            complete: _,
+        } => tag,
     }
 }
 
@@ -130,6 +166,10 @@ pub fn unit_asked(w: What) -> u8
     match w {
         What::Command { lun, flags: _ } => lun,
         What::Manage(o) => rules::manage::unit_of(o),
+        What::Confirm {
+            offset: _,
+            complete: _,
+        } => 0,
     }
 }
 
@@ -140,6 +180,10 @@ pub fn clears_set(w: What) -> bool
     match w {
         What::Command { lun: _, flags: _ } => false,
         What::Manage(o) => rules::manage::clears_set(o),
+        What::Confirm {
+            offset: _,
+            complete: _,
+        } => false,
     }
 }
 
@@ -158,15 +202,22 @@ fn kind_of(q: Queue) -> Kind
     Kind::Simple
 }
 
+// An answer that leaves the table as it is.
+fn tell(answer: Answer) -> Plan
+    ensures { λ r. ⌜ r ≡ planned answer Change.Nothing Deed.Nothing ⌝ }
+{
+    Plan {
+        answer,
+        change: Change::Nothing,
+        deed: Deed::Nothing,
+    }
+}
+
 // A refusal, by its number.
 pub fn refuse(n: Refusal) -> Plan
     ensures { λ r. ⌜ r ≡ refusing n ⌝ }
 {
-    Plan {
-        answer: Answer::Refused(n),
-        change: Change::Nothing,
-        deed: Deed::Nothing,
-    }
+    tell(Answer::Refused(n))
 }
 
 // The plan that a ruling on a command of the path at p comes to, under the next arrival number.
@@ -185,6 +236,11 @@ fn rule(next: u64, p: u8, tag: u16, lun: u8, flags: Flags, r: Ruling) -> Plan
             change: Change::Sender(p, mood),
             deed: Deed::Nothing,
         },
+        Ruling::Invalid(mood) => Plan {
+            answer: Answer::Invalid { tag },
+            change: Change::Sender(p, mood),
+            deed: Deed::Nothing,
+        },
         Ruling::Accept => {
             let queue = flags.queue;
             let kind = kind_of(queue);
@@ -196,6 +252,7 @@ fn rule(next: u64, p: u8, tag: u16, lun: u8, flags: Flags, r: Ruling) -> Plan
                     tag,
                     lun,
                     kind,
+                    confirm: flags.confirm,
                 },
             }
         }
@@ -215,17 +272,77 @@ fn plan_order(f: Facts, p: u8, tag: u16, m: &[u8], o: Order) -> Plan
             deed: Deed::End(rules::manage::ends(p, o)),
         };
     }
-    Plan {
-        answer,
-        change: Change::Nothing,
-        deed: Deed::Nothing,
+    tell(answer)
+}
+
+// The task of the path at p with a tag and an arrival number.
+fn numbered(arrival: u64, p: u8, tag: u16) -> Selection
+    ensures { λ r. ⌜ r ≡ numberedAs arrival p tag ⌝ }
+{
+    let all = Selection::ALL;
+    Selection {
+        number: Number::Exactly(arrival),
+        whose: Whose::Named(p, tag),
+        ..all
     }
 }
 
-// The plan for what the path at p asks with a tag, from the facts and the next arrival number.
-pub fn find_plan(f: Facts, next: u64, p: u8, tag: u16, m: &[u8], w: What) -> Plan
-    ensures { λ r. ⌜ r ≡ planOf f next p tag (now (m .entry)) w ⌝ }
+// Whether a task was picked that waits to be confirmed.
+fn is_awaited(p: Pick) -> bool
+    ensures { λ r. ⌜ r ≡ isAwaited p ⌝ }
 {
+    if !p.found {
+        return false;
+    }
+    let task = p.task;
+    let phase = task.phase;
+    match phase {
+        Phase::Waiting => false,
+        Phase::Running => false,
+        Phase::Unconfirmed => true,
+    }
+}
+
+// The plan for CONFIRM STATUS of the path at p, whose task with the tag is its own: it is ended, or it waits again where the offset lies within the bytes
+// transferred.
+fn plan_confirm(own: Pick, p: u8, tag: u16, m: &[u8], offset: u32, complete: bool) -> Plan
+    ensures { λ r. ⌜ r ≡ confirmPlan own p tag (now (m .entry)) offset complete ⌝ }
+{
+    let code = ReturnCode::INVALID_FIELD;
+    if wire::message::reserved_set(m) {
+        return tell(Answer::Response { tag, code });
+    }
+    if !is_awaited(own) {
+        return refuse(Refusal::NOTHING_TO_CONFIRM);
+    }
+    let task = own.task;
+    let arrival = task.arrival;
+    if complete {
+        return Plan {
+            answer: Answer::Confirmed(arrival),
+            change: Change::Nothing,
+            deed: Deed::End(numbered(arrival, p, tag)),
+        };
+    }
+    if offset as u64 > task.transferred {
+        return tell(Answer::Response { tag, code });
+    }
+    Plan {
+        answer: Answer::Restarted(arrival),
+        change: Change::Nothing,
+        deed: Deed::Restart {
+            place: own.at,
+            offset,
+        },
+    }
+}
+
+// The plan for what the path at p asks with a tag, from what was seen of the table and the next arrival number.
+pub fn find_plan(s: Seen, next: u64, p: u8, tag: u16, m: &[u8], w: What) -> Plan
+    ensures { λ r. ⌜ r ≡ planOf s next p tag (now (m .entry)) w ⌝ }
+{
+    let f = s.facts;
+    let own = s.own;
     match w {
         What::Command { lun, flags } => {
             let d = rules::rules::decide(f, flags, m);
@@ -233,6 +350,7 @@ pub fn find_plan(f: Facts, next: u64, p: u8, tag: u16, m: &[u8], w: What) -> Pla
             rule(next, p, tag, lun, flags, r)
         }
         What::Manage(o) => plan_order(f, p, tag, m, o),
+        What::Confirm { offset, complete } => plan_confirm(own, p, tag, m, offset, complete),
     }
 }
 

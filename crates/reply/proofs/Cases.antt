@@ -1,15 +1,16 @@
 -- What can be written, the bytes of a reply, and what the writer and the reader answer, case by case.
 -- Assumes nothing.
 use Prim.Native.Nat.{ℕ, _/_, _%_, _≤_, _<_}
-use mathlib.Core.Path.{_≡_, _∙_}
+use mathlib.Core.Path.{_≡_, sym, _∙_}
 use mathlib.Core.Bool.{Bool, true, false, not, or-false}
 use mathlib.Core.List.{List, [], _∷_, _++_}
 use lib.ListN.{length, take, drop, replicate}
 use lib.Seq.{take-length}
 use lib.Dec.{leb, ltb, eqb}
 use borrow.Author.Tests.{not-true, not-false, le-ltb, lt-ltb, ltb-false, eq-eqb, ne-eqb, eqb-true, eqb-false}
-use Rattle.wire.specs.Paper.{tooShort, notHandled, smallBuffer, notWritable, replyRoom, smsCode, scsiResponse, scsiStatus, checkCondition}
-use Rattle.wire.specs.Fields.{byte}
+use Rattle.wire.specs.Paper.{tooShort, notHandled, smallBuffer, notWritable, replyRoom, smsCode, scsiResponse, scsiStatus}
+use Rattle.wire.specs.Paper.{invalidField, checkCondition, statusByte, sense}
+use Rattle.wire.specs.Fields.{byte, joined}
 use Rattle.wire.specs.declared.codes.ReturnCode.{ReturnCode}
 use Rattle.wire.specs.declared.codes.StatusByte.{StatusByte}
 use Rattle.wire.specs.declared.codes.Sense.{Sense}
@@ -17,7 +18,7 @@ use Rattle.wire.proofs.Table.{cond-ind}
 use Rattle.reply.specs.Replies.{oneOf, responseCodes, plainStatuses, isNone, writableOf, bytesOf, senseBytes, responseLength, statusLength}
 use Rattle.reply.specs.Calls.{writtenOf, leftOf, Writes, startsWith, fitted, asResponse, asStatus, foundIn}
 use Rattle.reply.specs.declared.Reply.{Reply}
-use Rattle.reply.specs.declared.Reply.the-variants.{Response, Status}
+use Rattle.reply.specs.declared.Reply.the-variants.{Response, Status, Invalid}
 use Rattle.reply.specs.declared.Written.the-variants as written
 use Rattle.reply.specs.declared.Found.{Found}
 use Rattle.reply.specs.declared.Found.the-variants as found
@@ -57,7 +58,11 @@ module _ {r : Reply} {t : ℕ} {x : StatusByte} {s : Sense} (e : r ≡ Status t 
     unfolding writableOf
     stray k = rw e (simp (ne-eqb _ _ h, ← m, k))
 
-pub ruleset writable-cases = (of-response, with-sense, without, stray)
+pub of-invalid : {r : Reply} {t : ℕ} → r ≡ Invalid t → true ≡ writableOf r
+unfolding writableOf
+of-invalid e = rw e
+
+pub ruleset writable-cases = (of-response, with-sense, without, stray, of-invalid)
 
 -- ---- the bytes
 
@@ -114,6 +119,17 @@ module _ (r : Reply) (b : List ℕ) {w : Bool} (hw : w ≡ writableOf r) where
     like m = rw (← hw, not-false w n, ← hs, not-false s m)
 
 pub ruleset fit-cases = (unwritable, unlike, like)
+
+-- the fields of a STATUS, by its RETURN CODE
+module _ (b : List ℕ) {tag high low code : ℕ} (t : tag ≡ joined high low) (h : high ≡ byte b 2) (l : low ≡ byte b 3) (c : code ≡ byte b 6) where
+  pub invalid : code ≡ invalidField .0 → Invalid tag ≡ asStatus b
+  invalid e = rw (t, h, l) (simp (eq-eqb _ _ (sym c ∙ e)))
+
+  pub processed : {x key asc ascq : ℕ} → (code ≡ invalidField .0 → ⊥) → x ≡ byte b 4 → key ≡ byte b 10 → asc ≡ byte b 20 → ascq ≡ byte b 21
+      → Status tag (statusByte x) (sense key asc ascq) ≡ asStatus b
+  processed n ex ek ea eq = rw (t, h, l, ex, ek, ea, eq) (simp (ne-eqb _ _ (λ e. n (c ∙ e))))
+
+pub ruleset status-cases = (invalid, processed)
 
 pub no-codes : (b : List ℕ) → length b < 2 → found.Refused tooShort ≡ foundIn b
 unfolding foundIn

@@ -4,10 +4,11 @@ use Prim.Native.Nat.{ℕ, _≤_, _<_}
 use mathlib.Core.Path.{_≡_, refl, sym, _∙_}
 use mathlib.Core.List.{List, [], _∷_, _++_}
 use lib.ListN.{length}
-use lib.Dec.{lit<}
+use lib.Dec.{eqb, lit<}
 use native.Mathlib.Omega.{arith}
-use Rattle.wire.specs.Paper.{tooShort, returnCode, statusByte, sense}
+use Rattle.wire.specs.Paper.{tooShort, returnCode, invalidField, statusByte, sense}
 use Rattle.wire.specs.Fields.{byte, word}
+use Rattle.wire.proofs.Table.{cond-ind}
 use Rattle.wire.proofs.Past.{same, longer}
 use Rattle.reply.specs.Replies.{bytesOf, responseLength, statusLength}
 use Rattle.reply.specs.Calls.{startsWith, fitted, asResponse, asStatus, foundIn}
@@ -15,7 +16,7 @@ use Rattle.reply.specs.Promises.{PastIsNotRead}
 use Rattle.reply.specs.declared.Reply.{Reply}
 use Rattle.reply.specs.declared.Found.the-variants as found
 use Rattle.reply.proofs.Cases.{not-ours, whole-response, whole-status, other, each-finding}
-use Rattle.reply.proofs.Promises.{response-length, status-length}
+use Rattle.reply.proofs.Promises.{response-length, status-length, invalid-length}
 
 starts-same : (xs ys rest : List ℕ) → length xs ≤ length ys → startsWith xs (ys ++ rest) ≡ startsWith xs ys
 unfolding startsWith
@@ -34,14 +35,18 @@ module _ (b rest : List ℕ) where
   status-same : statusLength ≤ length b → asStatus b ≡ asStatus (b ++ rest)
   status-same h =
       let byte-same : (k : ℕ) → k < 26 → byte (b ++ rest) k ≡ byte b k = λ k l. same b rest k (omega arith) in
-      rw (byte-same 2 (lit< tt), byte-same 3 (lit< tt), byte-same 4 (lit< tt), byte-same 10 (lit< tt), byte-same 20 (lit< tt), byte-same 21 (lit< tt))
+      rw (byte-same 2 (lit< tt), byte-same 3 (lit< tt), byte-same 4 (lit< tt), byte-same 6 (lit< tt), byte-same 10 (lit< tt), byte-same 20 (lit< tt), byte-same 21 (lit< tt))
 
   fits-response : responseLength ≤ length b → fitted (asResponse b) b ≡ fitted (asResponse b) (b ++ rest)
   fits-response h = fitted-same (asResponse b) b rest (omega (arith, response-length (word b 2) (returnCode (byte b 4))))
 
   fits-status : statusLength ≤ length b → fitted (asStatus b) b ≡ fitted (asStatus b) (b ++ rest)
-  fits-status h =
-      fitted-same (asStatus b) b rest (omega (arith, status-length (word b 2) (statusByte (byte b 4)) (sense (byte b 10) (byte b 20) (byte b 21))))
+  fits-status h = fitted-same (asStatus b) b rest (omega (arith, either-length))
+    where
+      either-length : length (bytesOf (asStatus b)) ≡ statusLength
+      either-length =
+          cond-ind (λ r. length (bytesOf r) ≡ statusLength) (eqb (byte b 6) (invalidField .0)) (λ _. invalid-length (word b 2))
+          (λ _. status-length (word b 2) (statusByte (byte b 4)) (sense (byte b 10) (byte b 20) (byte b 21)))
 
   module _ (h : 2 ≤ length b) where
     two : 2 ≤ length (b ++ rest)

@@ -21,7 +21,7 @@ use Rattle.reply.specs.Replies.{isNone, writableOf, bytesOf, responseLen
 use Rattle.reply.specs.Calls.{writtenOf, leftOf, placed, startsWith, fitted, asResponse, asStatus, foundIn}
 use Rattle.reply.specs.Promises.{ReadsWhatWasWritten, WritesWhatWasRead, RefusalLeavesTheBuffer, NoReplyIsLonger}
 use Rattle.reply.specs.declared.Reply.{Reply}
-use Rattle.reply.specs.declared.Reply.the-variants.{Response, Status}
+use Rattle.reply.specs.declared.Reply.the-variants.{Response, Status, Invalid}
 use Rattle.reply.specs.declared.Written.the-variants as written
 use Rattle.reply.specs.declared.Found.{Found}
 use Rattle.reply.specs.declared.Found.the-variants as found
@@ -58,6 +58,10 @@ status-fields t x s rest false e w =
     let n : s ≡ noSense = none-is s (and-eq-true-iff (isNone s) _ .0 (rw e at w) .0) in
     rw (e, n) (ap (λ k. Status k x noSense) (sym (div-add-mod' t 256)))
 
+invalid-fields : (t : ℕ) (rest : List ℕ) → Invalid t ≡ asStatus (bytesOf (Invalid t) ++ rest)
+unfolding bytesOf
+invalid-fields t rest = ap Invalid (sym (div-add-mod' t 256))
+
 pub response-length : (t : ℕ) (c : ReturnCode) → length (bytesOf (Response t c)) ≡ responseLength
 unfolding bytesOf
 response-length t c = refl
@@ -68,9 +72,14 @@ status-length t x s =
     cond-ind (λ l. length (smsCode ∷ scsiStatus ∷ t / 256 ∷ t % 256 ∷ x .0 ∷ 0 ∷ 0 ∷ 0 ∷ l) ≡ statusLength) (eqb (x .0) (checkCondition .0))
     (λ _. refl) (λ _. refl)
 
+pub invalid-length : (t : ℕ) → length (bytesOf (Invalid t)) ≡ statusLength
+unfolding bytesOf
+invalid-length t = refl
+
 pub no-reply-is-longer : NoReplyIsLonger
 no-reply-is-longer (Response t c) = omega (arith, response-length t c)
 no-reply-is-longer (Status t x s) = omega (arith, status-length t x s)
+no-reply-is-longer (Invalid t) = omega (arith, invalid-length t)
 
 read-back : (r : Reply) (rest : List ℕ) → writableOf r ≡ true → found.Reply r ≡ foundIn (bytesOf r ++ rest)
 unfolding bytesOf
@@ -79,6 +88,9 @@ read-back (Response t c) rest w =
 read-back (Status t x s) rest w =
     whole-status _ (omega arith) refl (λ e. eqb-false 17 3 refl e) refl (omega (arith, length-append (bytesOf (Status t x s)) rest, status-length t x s))
     (status-fields t x s rest _ refl w) (fits-itself (Status t x s) rest w)
+read-back (Invalid t) rest w =
+    whole-status _ (omega arith) refl (λ e. eqb-false 17 3 refl e) refl (omega (arith, length-append (bytesOf (Invalid t)) rest, invalid-length t))
+    (invalid-fields t rest) (fits-itself (Invalid t) rest w)
 
 -- the writer's answer says which way it went
 module _ (n : ℕ) (k : Refusal) where

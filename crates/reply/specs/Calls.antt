@@ -6,11 +6,11 @@ use mathlib.Core.Bool.{Bool, true, false, cond, not, _&&_}
 use lib.ListN.{length, drop}
 use lib.Dec.{ltb, eqb}
 use Rattle.wire.specs.Paper.{tooShort, notHandled, smallBuffer, notWritable, replyRoom}
-use Rattle.wire.specs.Paper.{smsCode, scsiResponse, scsiStatus, returnCode, statusByte, sense}
+use Rattle.wire.specs.Paper.{smsCode, scsiResponse, scsiStatus, returnCode, invalidField, statusByte, sense}
 use Rattle.wire.specs.Fields.{byte, word}
 use Rattle.reply.specs.Replies.{writableOf, bytesOf, responseLength, statusLength}
 use Rattle.reply.specs.declared.Reply.{Reply}
-use Rattle.reply.specs.declared.Reply.the-variants.{Response, Status}
+use Rattle.reply.specs.declared.Reply.the-variants.{Response, Status, Invalid}
 use Rattle.reply.specs.declared.Written.{Written}
 use Rattle.reply.specs.declared.Written.the-variants as written
 use Rattle.reply.specs.declared.Found.{Found}
@@ -49,12 +49,14 @@ startsWith (x ∷ xs) (y ∷ ys) = eqb x y && startsWith xs ys
 unfoldable pub fitted : Reply → List ℕ → Found
 fitted r b = cond (writableOf r && startsWith (bytesOf r) b) (found.Reply r) (found.Refused notWritable)
 
--- the fields of a RESPONSE (table 20) and of a STATUS (tables 7 and 10)
+-- the fields of a RESPONSE (table 20) and of a STATUS (tables 7 and 10), whose RETURN CODE at 6 is FFh for an invalid command
 abbrev pub asResponse : List ℕ → Reply
 asResponse b = Response (word b 2) (returnCode (byte b 4))
 
 abbrev pub asStatus : List ℕ → Reply
-asStatus b = Status (word b 2) (statusByte (byte b 4)) (sense (byte b 10) (byte b 20) (byte b 21))
+asStatus b =
+    cond (eqb (byte b 6) (invalidField .0)) (Invalid (word b 2))
+    (Status (word b 2) (statusByte (byte b 4)) (sense (byte b 10) (byte b 20) (byte b 21)))
 
 unfoldable pub foundIn : List ℕ → Found
 foundIn b =

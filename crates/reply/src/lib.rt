@@ -15,6 +15,7 @@ use wire::codes::StatusByte;
 use wire::fields::byte_at;
 use wire::fields::word;
 
+// Invalid is the SCSI STATUS of a command whose bits contradict each other: STATUS 00h, RETURN CODE FFh.
 pub enum Reply {
     Response {
         tag: u16,
@@ -24,6 +25,9 @@ pub enum Reply {
         tag: u16,
         status: StatusByte,
         sense: Sense,
+    },
+    Invalid {
+        tag: u16,
     },
 }
 
@@ -111,6 +115,7 @@ fn writable(r: Reply) -> bool
             }
             false
         }
+        Reply::Invalid { tag: _ } => true,
     }
 }
 
@@ -146,6 +151,19 @@ fn status_bytes(tag: u16, status: StatusByte, s: Sense) -> [u8; 26]
     b
 }
 
+fn invalid_bytes(tag: u16) -> [u8; 26]
+    ensures { λ r. ⌜ r ≡ bytesOf (Reply.Invalid tag) ⌝ }
+{
+    let mut b = [0; 26];
+    b[0] = SMS_CODE;
+    b[1] = SCSI_STATUS;
+    b[2] = (tag / 256) as u8;
+    b[3] = (tag % 256) as u8;
+    b[4] = StatusByte::GOOD.0;
+    b[6] = ReturnCode::INVALID_FIELD.0;
+    b
+}
+
 // Writes the reply at the front of the buffer. A refusal changes nothing, and bytes after the reply keep their values.
 pub fn write(r: Reply, buf: &mut [u8]) -> Written
     ensures { λ w. ⌜ Writes r (now (buf .entry)) w (now (buf .exit)) ⌝ }
@@ -163,6 +181,10 @@ pub fn write(r: Reply, buf: &mut [u8]) -> Written
         }
         Reply::Status { tag, status, sense } => {
             let b = status_bytes(tag, status, sense);
+            Written::Bytes(bytes::copy(&b, buf))
+        }
+        Reply::Invalid { tag } => {
+            let b = invalid_bytes(tag);
             Written::Bytes(bytes::copy(&b, buf))
         }
     }
@@ -198,6 +220,10 @@ fn stands(r: Reply, b: &[u8]) -> bool
             let e = status_bytes(tag, status, sense);
             starts_with(&e, b)
         }
+        Reply::Invalid { tag } => {
+            let e = invalid_bytes(tag);
+            starts_with(&e, b)
+        }
     }
 }
 
@@ -223,16 +249,21 @@ fn as_response(b: &[u8]) -> Reply
     }
 }
 
+// By its RETURN CODE a STATUS is one of a command that was processed, or of an invalid one.
 fn as_status(b: &[u8]) -> Reply
     ensures { λ r. ⌜ r ≡ asStatus (now (b .entry)) ⌝ }
 {
+    let tag = word(byte_at(b, 2), byte_at(b, 3));
+    if byte_at(b, 6) == ReturnCode::INVALID_FIELD.0 {
+        return Reply::Invalid { tag };
+    }
     let sense = Sense {
         key: byte_at(b, 10),
         code: byte_at(b, 20),
         qualifier: byte_at(b, 21),
     };
     Reply::Status {
-        tag: word(byte_at(b, 2), byte_at(b, 3)),
+        tag,
         status: StatusByte(byte_at(b, 4)),
         sense,
     }

@@ -13,13 +13,14 @@ use Rattle.wire.specs.Block.{opcode}
 use Rattle.wire.specs.declared.codes.ReturnCode.{ReturnCode}
 use Rattle.wire.specs.declared.message.Flags.{Flags}
 use Rattle.task.specs.Selections.{named, acaOn}
-use Rattle.table.specs.Tables.{pathAt, unitAt, isAttached, anyLive, hasRoom, losersOf}
+use Rattle.table.specs.Tables.{pathAt, unitAt, isAttached, hasRoom, losersOf, pickOf}
 use Rattle.table.specs.Sound.{ownedBy}
 use Rattle.table.specs.declared.Path as path
 use Rattle.table.specs.declared.Unit as unit
+use Rattle.task.specs.declared.scan.Pick.{Pick}
 use Rattle.table.specs.declared.Table.{Table}
 use Rattle.rules.specs.First.{Rule, rule, firstThat}
-use Rattle.rules.specs.Rules.{hasAca, factsOf, asksAca, barred, passesAttention, decided, decision}
+use Rattle.rules.specs.Rules.{hasAca, factsOf, seenOf, asksAca, barred, passesAttention, decided, decision}
 use Rattle.rules.specs.Management.{hasUnit, carriedCode, orderCode}
 use Rattle.rules.specs.declared.rules.Facts.{Facts}
 use Rattle.rules.specs.declared.rules.Ruling.{Ruling}
@@ -35,13 +36,26 @@ module _ (t : Table) (p lun : ℕ) {clears : Bool} {n : ℕ} where
   pub nobody-asked : n ≡ 0 → clears ≡ false → n ≡ cond clears (losersOf t lun p) 0
   nobody-asked e a = e ∙ rw a
 
-module _ (t : Table) (p tag lun : ℕ) (clears : Bool) {s : path.Path} {u : unit.Unit} {room taken attached aca owned busy : Bool} {losers : ℕ} where
+module _ (t : Table) (p tag lun : ℕ) (clears : Bool) {s : path.Path} {u : unit.Unit} {own rival : Pick} {room attached aca owned : Bool} {losers : ℕ} where
   pub looked :
-      s ≡ pathAt t p → u ≡ unitAt t lun → room ≡ hasRoom t → taken ≡ anyLive t (named p tag) → attached ≡ isAttached t lun → aca ≡ hasAca (u .aca)
-      → owned ≡ ownedBy (u .aca) p → busy ≡ anyLive t (acaOn lun) → losers ≡ cond clears (losersOf t lun p) 0
-      → record { marked = s .full; attention = s .attention; room = room; taken = taken; attached = attached; aca = aca; owned = owned; busy = busy; losers = losers }
-      ≡ factsOf t p tag lun clears
-  unfolding factsOf
+      s ≡ pathAt t p → u ≡ unitAt t lun → own ≡ pickOf t (named p tag) → rival ≡ pickOf t (acaOn lun) → room ≡ hasRoom t → attached ≡ isAttached t lun → aca ≡ hasAca (u .aca)
+      → owned ≡ ownedBy (u .aca) p → losers ≡ cond clears (losersOf t lun p) 0
+      → record {
+        facts = record {
+          marked = s .full;
+          attention = s .attention;
+          room = room;
+          taken = own .found;
+          attached = attached;
+          aca = aca;
+          owned = owned;
+          busy = rival .found;
+          losers = losers;
+        };
+        own = own;
+      }
+      ≡ seenOf t p tag lun clears
+  unfolding factsOf seenOf
   looked e h a b c d f g k = rw (a, b, c, d, f, g, k, e, h)
 
 pub ruleset look-cases = (looked, losers-asked, nobody-asked)

@@ -8,7 +8,7 @@ use lib.ListN.{getD}
 use Rattle.task.proofs.Ways.{either-way, never, cond-ind, both}
 use Rattle.rules.specs.First.{Rule, firstThat}
 use Rattle.rules.specs.declared.rules.Ruling.{Ruling}
-use Rattle.rules.specs.declared.rules.Ruling.the-variants.{Refuse, Respond, Report, Accept}
+use Rattle.rules.specs.declared.rules.Ruling.the-variants.{Refuse, Respond, Report, Invalid, Accept}
 
 -- every rule's answer meets a test
 unfoldable pub everyGives : (Ruling → Bool) → List Rule → Bool
@@ -26,6 +26,7 @@ abbrev pub notAccept : Ruling → Bool
 notAccept (Refuse n) = true
 notAccept (Respond code mood) = true
 notAccept (Report status sense mood) = true
+notAccept (Invalid mood) = true
 notAccept Accept = false
 
 -- whether the rule at k applies

@@ -1,22 +1,34 @@
 -- Which tasks an order picks to end: nine orders of one path over tasks of two.
+use Prim.Native.Nat.{ℕ}
 use mathlib.Core.Path.{_≡_}
 use mathlib.Core.Bool.{Bool, true, false}
 use mathlib.Core.List.{List, [], _∷_, map}
 use Rattle.task.specs.Selections.{picks}
 use Rattle.task.specs.declared.Task.{Task}
+use Rattle.task.specs.declared.Kind.{Kind}
 use Rattle.task.specs.declared.Kind.the-variants.{Aca, Simple}
-use Rattle.task.specs.declared.Phase.the-variants.{Waiting}
+use Rattle.task.specs.declared.Phase.{Phase}
+use Rattle.task.specs.declared.Phase.the-variants.{Waiting, Unconfirmed}
 use Rattle.rules.specs.Management.{endsOf}
 use Rattle.rules.specs.declared.manage.Order.{Order}
 use Rattle.rules.specs.declared.manage.Order.the-variants.{AbortTask, AbortTaskSet, ClearTaskSet, ClearAca, UnitReset, TargetReset}
 
--- tag 0005h of the paths at 0 and 1 on unit 0, and tag 0006h of the path at 1, the ACA task, on unit 1
+abbrev pub task : ℕ → ℕ → ℕ → ℕ → Kind → Phase → Task
+task arrival tag path unit kind phase = record {
+  arrival = arrival;
+  transferred = 0;
+  offset = 0;
+  tag = tag;
+  path = path;
+  unit = unit;
+  kind = kind;
+  phase = phase;
+  confirm = true;
+}
+
+-- tag 0005h of the paths at 0 and 1 on unit 0, the second unconfirmed, and tag 0006h of the path at 1, the ACA task, on unit 1
 unfoldable pub shared : List Task
-shared =
-    record { arrival = 1; tag = 5; path = 0; unit = 0; kind = Simple; phase = Waiting }
-    ∷ record { arrival = 2; tag = 5; path = 1; unit = 0; kind = Simple; phase = Waiting }
-    ∷ record { arrival = 3; tag = 6; path = 1; unit = 1; kind = Aca; phase = Waiting }
-    ∷ []
+shared = task 1 5 0 0 Simple Waiting ∷ task 2 5 1 0 Simple Unconfirmed ∷ task 3 6 1 1 Aca Waiting ∷ []
 
 -- an order, and whether it ends each of the three
 pub record Example : Type 0 where

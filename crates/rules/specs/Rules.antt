@@ -10,7 +10,7 @@ use Rattle.wire.specs.Messages.{reservedSet}
 use Rattle.wire.specs.Block.{opcode, blockLength, cutShort, noBlock, linked}
 use Rattle.wire.specs.declared.message.Flags.{Flags}
 use Rattle.task.specs.Selections.{named, acaOn}
-use Rattle.table.specs.Tables.{pathAt, unitAt, isAttached, isReset, anyLive, hasRoom, losersOf}
+use Rattle.table.specs.Tables.{pathAt, unitAt, isAttached, isReset, pickOf, hasRoom, losersOf}
 use Rattle.table.specs.Sound.{ownedBy}
 use Rattle.table.specs.declared.Table.{Table}
 use Rattle.table.specs.declared.Attention.{Attention}
@@ -19,9 +19,10 @@ use Rattle.table.specs.declared.Aca.{Aca}
 use Rattle.table.specs.declared.Aca.the-variants.{Clear, Owned}
 use Rattle.rules.specs.First.{Rule, rule, firstThat}
 use Rattle.rules.specs.declared.rules.Facts.{Facts}
+use Rattle.rules.specs.declared.rules.Seen.{Seen}
 use Rattle.rules.specs.declared.rules.Mood.the-variants.{Stay, Mark, Unmark, Attend}
 use Rattle.rules.specs.declared.rules.Ruling.{Ruling}
-use Rattle.rules.specs.declared.rules.Ruling.the-variants.{Refuse, Respond, Report, Accept}
+use Rattle.rules.specs.declared.rules.Ruling.the-variants.{Refuse, Respond, Report, Invalid, Accept}
 use Rattle.rules.specs.declared.rules.Decision.{Decision}
 
 -- ---- what the rules ask of the table, for the sender's place p in the path list
@@ -42,13 +43,17 @@ factsOf t p tag lun clears = record {
   marked = pathAt t p .full;
   attention = pathAt t p .attention;
   room = hasRoom t;
-  taken = anyLive t (named p tag);
+  taken = pickOf t (named p tag) .found;
   attached = isAttached t lun;
   aca = hasAca (unitAt t lun .aca);
   owned = ownedBy (unitAt t lun .aca) p;
-  busy = anyLive t (acaOn lun);
+  busy = pickOf t (acaOn lun) .found;
   losers = cond clears (losersOf t lun p) 0;
 }
+
+-- and that task itself
+unfoldable pub seenOf : Table → ℕ → ℕ → ℕ → Bool → Seen
+seenOf t p tag lun clears = record { facts = factsOf t p tag lun clears; own = pickOf t (named p tag) }
 
 -- ---- when a rule applies: f is what was asked of the table, g are the flags of byte 10, m is the message
 
@@ -63,6 +68,10 @@ resumesUnmarked f g = g .resume && not (f .marked)
 -- RESUME clear, marked
 unfoldable pub missesResume : Facts → Flags → Bool
 missesResume f g = not (g .resume) && f .marked
+
+-- OOT and CONFIRM both set
+unfoldable pub contradicts : Flags → Bool
+contradicts g = g .oot && g .confirm
 
 -- unit has ACA: pass only if the sender owns it, the kind is ACA and no ACA task is live on the unit
 unfoldable pub barred : Facts → Flags → Bool
@@ -102,11 +111,11 @@ roomRules f g m =
     ∷ rule 2 (cutShort m) (length m) (Refuse Paper.tooShort)
     ∷ []
 
--- 3. to 5.: the fields, CONFIRM, the tag. From here on the mark is cleared
+-- 3. to 5.: the fields, OOT with CONFIRM, the tag. From here on the mark is cleared
 unfoldable pub fieldRules : Facts → Flags → List ℕ → List Rule
 fieldRules f g m =
     rule 3 (reservedSet m) (reservedField m) (Respond Paper.invalidField Unmark)
-    ∷ rule 4 (g .confirm) (byte m 10) (Respond Paper.invalidField Unmark)
+    ∷ rule 4 (contradicts g) (byte m 10) (Invalid Unmark)
     ∷ rule 5 (f .taken) (word m 2) (Respond Paper.overlapped Unmark)
     ∷ []
 

@@ -8,14 +8,14 @@ use Rattle.table.specs.declared.Aca.{Aca}
 use Rattle.table.specs.declared.Path as path
 use Rattle.table.specs.declared.Unit as unit
 use Rattle.table.specs.declared.Table.{Table}
-use Rattle.rules.specs.Rules.{hasAca, factsOf, deciding, decision}
+use Rattle.rules.specs.Rules.{hasAca, seenOf, deciding, decision}
 use Rattle.rules.specs.Management.{endsOf, tagOf, unitOf, isClearSet, orderCode, orderPaths, orderUnits}
 use Rattle.rules.specs.declared.rules.Facts.{Facts}
 use Rattle.rules.specs.declared.manage.Order.{Order}
 
 pub record AnswersAreOne : Type 0 where
   pub has-aca : (aca : Aca) → One (hasAca aca)
-  pub look : (t : Table) (p tag lun : ℕ) (clears : Bool) → One (factsOf t p tag lun clears)
+  pub look : (t : Table) (p tag lun : ℕ) (clears : Bool) → One (seenOf t p tag lun clears)
   pub decide : (f : Facts) (g : Flags) (m : List ℕ) → One (decision (deciding f g m))
   pub ends : (p : ℕ) (o : Order) → One (endsOf p o)
   pub tag-of : (o : Order) → One (tagOf o)

@@ -5,11 +5,12 @@ ghost use Rattle.wire.specs.Paper;
 ghost use Rattle.rules.specs.First.{firstThat};
 ghost use Rattle.rules.specs.Rules;
 ghost use Rattle.table.specs.Tables.{isReset};
-ghost use Rattle.rules.specs.Rules.{hasAca, isCleared, factsOf, asksAca, resumesUnmarked, missesResume, passesAttention, resetPending, clearedPending, fieldRules, unitRules, blockRules, accepts, deciding, decision};
+ghost use Rattle.rules.specs.Rules.{hasAca, isCleared, seenOf, asksAca, resumesUnmarked, missesResume, passesAttention, resetPending, clearedPending, fieldRules, unitRules, blockRules, accepts, deciding, decision};
 use table::Aca;
 use table::Attention;
 use table::Table;
 use task::Kind;
+use task::scan::Pick;
 use task::select::Place;
 use task::select::Selection;
 use task::select::Sort;
@@ -41,6 +42,12 @@ pub struct Facts {
     pub losers: u8,
 }
 
+// What was seen of the table: the facts, and the sender's live task with the tag, if there is one.
+pub struct Seen {
+    pub facts: Facts,
+    pub own: Pick,
+}
+
 // What an answer does to the sender's mark and attention.
 pub enum Mood {
     // Both stay: RESUME set, path not marked.
@@ -58,6 +65,7 @@ pub enum Ruling {
     Refuse(Refusal),
     Respond(ReturnCode, Mood),
     Report(StatusByte, Sense, Mood),
+    Invalid(Mood),
     Accept,
 }
 
@@ -97,8 +105,8 @@ fn is_cleared(a: Attention) -> bool
 }
 
 // What is asked of the table for the path at p, about its task with a tag and about a unit; who would lose a task on the unit only where that is asked.
-pub fn look(t: Table, p: u8, tag: u16, lun: u8, clears: bool) -> Facts
-    ensures { λ r. ⌜ r ≡ factsOf t p tag lun clears ⌝ }
+pub fn look(t: Table, p: u8, tag: u16, lun: u8, clears: bool) -> Seen
+    ensures { λ r. ⌜ r ≡ seenOf t p tag lun clears ⌝ }
 {
     let all = Selection::ALL;
     let sender = t.path_at(p as usize);
@@ -114,18 +122,21 @@ pub fn look(t: Table, p: u8, tag: u16, lun: u8, clears: bool) -> Facts
         sort: Sort::Just(Kind::Aca),
         ..all
     };
+    let own = t.pick(named);
+    let rival = t.pick(aca_task);
     let losers = if clears { t.losers(lun, p) } else { 0 };
-    Facts {
+    let facts = Facts {
         marked: sender.full,
         attention,
         room: t.has_room(),
-        taken: t.any(named),
+        taken: own.found,
         attached: t.is_attached(lun),
         aca: has_aca(aca),
         owned: table::sound::owned_by(aca, p),
-        busy: t.any(aca_task),
+        busy: rival.found,
         losers,
-    }
+    };
+    Seen { facts, own }
 }
 
 // RESUME set, path not marked.
@@ -284,15 +295,28 @@ fn by_unit(f: Facts, g: Flags, m: &[u8]) -> Decision
     by_block(m)
 }
 
-// Rules 3 to 5: the fields, CONFIRM and the tag; then those of the unit.
+// OOT and CONFIRM both set: bytes that may come out of order have no offset to restart at.
+fn contradicts(g: Flags) -> bool
+    ensures { λ r. ⌜ r ≡ Rules.contradicts g ⌝ }
+{
+    if g.oot {
+        return g.confirm;
+    }
+    false
+}
+
+// Rules 3 to 5: the fields, OOT with CONFIRM, and the tag; then those of the unit.
 fn by_fields(f: Facts, g: Flags, m: &[u8]) -> Decision
     ensures { λ r. ⌜ r ≡ decision (firstThat (fieldRules f g (now (m .entry)) ++ (unitRules f g (now (m .entry)) ++ blockRules (now (m .entry)))) (accepts (now (m .entry)))) ⌝ }
 {
     if wire::message::reserved_set(m) {
         return respond(3, ReturnCode::INVALID_FIELD, Mood::Unmark);
     }
-    if g.confirm {
-        return respond(4, ReturnCode::INVALID_FIELD, Mood::Unmark);
+    if contradicts(g) {
+        return Decision {
+            rule: 4,
+            ruling: Ruling::Invalid(Mood::Unmark),
+        };
     }
     if f.taken {
         return respond(5, ReturnCode::OVERLAPPED, Mood::Unmark);

@@ -57,7 +57,13 @@ pub(crate) fn add(t: Tally, a: Answer, reply: &[u8; 64]) -> Tally {
             status: _,
             sense: _,
         } => t,
-        Answer::Started(_) => t,
+        Answer::Invalid { tag: _ } => t,
+        Answer::Started {
+            offset: _,
+            arrival: _,
+        } => t,
+        Answer::Confirmed(_) => t,
+        Answer::Restarted(_) => t,
         Answer::Reset => t,
         Answer::Refused(_) => t,
     }

@@ -2,19 +2,20 @@
 --     bounded                  for `search`, a choice by a bound
 --     path-loop, end-loop      for `search (needs, ..)`, the turns of the loops over the paths and over the records
 --     loser-loop      for `search`, the start, the bound and the end of the loop over the losers; its turns are losers-add and losers-skip
---     aca-ways, room-ways, start-ways, finish-ways      for `search`, the ways out of the functions on ACA, room, start and finish
+--     aca-ways, room-ways, alter-ways, finish-ways      for `search`, the ways out of the functions on ACA, room, a record that changes, and finish
 use Prim.Native.Nat.{ℕ, _+_, _^_, _≤_, _<_}
 use mathlib.Core.Path.{_≡_, refl, sym, ap, ap₂, _∙_}
 use mathlib.Core.Bool.{Bool, true, false, cond, not, _&&_}
 use mathlib.Core.List.{List}
-use native.Mathlib.Nat.{le-refl, le-antisymm}
+use mathlib.Core.Logic.{⊎-elim}
+use native.Mathlib.Nat.{le-refl, le-antisymm, le-of-eq, lt-trans}
 use native.Mathlib.Omega.{arith}
 use lib.Dec.{eqb, ltb, leb}
 use lib.ListN.{length, getD, set, replicate}
 use lib.Seq.{set-getD}
 use borrow.Author.Tests.{lt-ltb, le-ltb, le-leb, lt-leb, not-true, not-false}
-use Rattle.task.specs.Index.{mapOf, mapAt}
-use Rattle.task.specs.Tasks.{noTask}
+use Rattle.task.specs.Index.{first, mapOf, mapAt}
+use Rattle.task.specs.Tasks.{noTask, awaits}
 use Rattle.task.specs.Map.{isLive, lowestFree, withBit, withoutBit}
 use Rattle.task.specs.Selections.{picks, picksLive, fromOn, runningAs}
 use Rattle.task.specs.declared.Kind.{Kind}
@@ -23,21 +24,29 @@ use Rattle.task.specs.declared.select.Selection.{Selection}
 use Rattle.task.specs.declared.select.Place.{Place}
 use Rattle.task.specs.declared.select.Place.the-variants.{Anywhere, On}
 use Rattle.task.specs.declared.scan.Pick.{Pick}
-use Rattle.task.proofs.Ways.{cond-below, cond-past, answered-true, answered-false}
-use Rattle.task.proofs.Places.{mapOf-ext}
+use Rattle.task.proofs.Ways.{cond-below, cond-past, answered-true, answered-false, chosen}
+use Rattle.task.proofs.Places.{lt-or-le, first-before, first-none, mapOf-ext}
 use Rattle.task.proofs.Lists.{mapBelow, mapBelow-ahead, mapBelow-zero, mapBelow-step, mapBelow-put, mapBelow-skip, mapBelow-all}
 use Rattle.task.proofs.Bits.{mapOf-lt}
 use Rattle.task.proofs.Loops.{mapOf-start, mapOf-add, mapOf-skip}
 use Rattle.task.proofs.Clearing.{clearBelow, clear-zero, clear-step, clear-skip, clear-ahead, clear-all}
-use Rattle.task.proofs.Next.{found-is-some}
-use Rattle.table.specs.Tables.{noPath, noUnit, taskAt, picksAt, anyLive, pickOf, lastArrival, hasRoom, withTasks, withUnits, newTask, accepted, endedBy, runs, started, alarmedIn, loses, losersOf, claimedIn, acaClearedIn, finished, resetOf}
+use Rattle.table.specs.Tables.{noPath, noUnit, taskAt, hasId, placeOf, picksAt, anyLive, pickOf, lastArrival, hasRoom, withTasks, withUnits, newTask, accepted, endedBy, alteredAt, alarmedIn, loses, losersOf, claimedIn, acaClearedIn, claimedBy, finished, resetOf}
 use Rattle.table.specs.declared.Aca.the-variants.{Clear, Owned}
 use Rattle.table.specs.declared.Path as path
 use Rattle.table.specs.declared.Unit as unit
 use Rattle.table.specs.declared.Table.{Table}
 use Rattle.table.proofs.Lists.{unmapped}
+use Rattle.table.proofs.Views.{any-found}
 
 pub ruleset bounded = (cond-below, cond-past)
+
+-- ---- the place of an id is at most 8
+
+pub place-fits : {n : ℕ} (paths : List path.Path) (count id : ℕ) → n ≡ placeOf paths count id → n ≤ 8
+unfolding placeOf
+place-fits paths count id e =
+    let p : ℕ → Bool = λ q. hasId count id q (getD paths q noPath) in
+    rw e (⊎-elim (λ l. le-of-eq (first-none 8 p (λ k m. first-before 8 k p (lt-trans m l)))) (λ l. l) (lt-or-le 8 (first 8 p)))
 
 -- ---- a loop over the paths: those that q picks go through g
 
@@ -97,8 +106,7 @@ pub ruleset aca-ways = (claim-kept, claim-made, clear-all-units, clear-past, cle
 -- ---- the scan finds a task where some live task is picked
 
 pub found-any : (t : Table) (s : Selection) {r : Pick} → r ≡ pickOf t s → length (t .tasks) ≡ 64 → r .found ≡ anyLive t s
-unfolding anyLive pickOf
-found-any t s e n = rw (e, ← n) (found-is-some (t .live) s (t .tasks))
+found-any t s e n = ap (λ (p : Pick). p .found) e ∙ any-found t s n
 
 -- ---- room, and what is accepted
 
@@ -111,40 +119,40 @@ module _ (t : Table) {i : ℕ} (e : i ≡ lowestFree (t .live)) where
   unfolding hasRoom
   some-record h = rw (← e, lt-ltb i 64 h)
 
-  module _ (path tag unit : ℕ) (kind : Kind) where
-    pub accept-full : 64 ≤ i → t ≡ accepted t path tag unit kind
+  module _ (path tag unit : ℕ) (kind : Kind) (confirm : Bool) where
+    pub accept-full : 64 ≤ i → t ≡ accepted t path tag unit kind confirm
     unfolding accepted
     accept-full h = rw (← no-record h)
 
-    pub accept-late : i < 64 → lastArrival < t .next → t ≡ accepted t path tag unit kind
+    pub accept-late : i < 64 → lastArrival < t .next → t ≡ accepted t path tag unit kind confirm
     unfolding accepted
     accept-late h l = rw (← some-record h, lt-leb _ _ l)
 
     pub accept-put : {m : ℕ} → i < 64 → t .next ≤ lastArrival → m ≡ withBit (t .live) i
-        → record { live = m; next = t .next + 1; count = t .count; attached = t .attached; paths = t .paths; units = t .units; tasks = set (t .tasks) i (newTask t path tag unit kind) }
-        ≡ accepted t path tag unit kind
+        → record { live = m; next = t .next + 1; count = t .count; attached = t .attached; paths = t .paths; units = t .units; tasks = set (t .tasks) i (newTask t path tag unit kind confirm) }
+        ≡ accepted t path tag unit kind confirm
     unfolding accepted
     accept-put h l k = rw (← some-record h, le-leb _ _ l, ← e, k)
 
 pub ruleset room-ways = (no-record, some-record, accept-full, accept-late, accept-put)
 
--- ---- a task that starts
+-- ---- a live task that changes
 
-module _ (t : Table) {i : ℕ} where
-  pub start-past : 64 ≤ i → t ≡ started t i
-  unfolding started
-  start-past h = rw (le-ltb i 64 h)
+module _ (t : Table) {i : ℕ} (a : Task) where
+  pub alter-past : 64 ≤ i → t ≡ alteredAt t i a
+  unfolding alteredAt
+  alter-past h = rw (le-ltb i 64 h)
 
   module _ {b : Bool} (h : i < 64) (e : b ≡ isLive (t .live) i) where
-    pub start-dead : not b ≡ true → t ≡ started t i
-    unfolding started
-    start-dead k = rw (lt-ltb i 64 h, ← e, not-true b k)
+    pub alter-dead : not b ≡ true → t ≡ alteredAt t i a
+    unfolding alteredAt
+    alter-dead k = rw (lt-ltb i 64 h, ← e, not-true b k)
 
-    pub start-runs : not b ≡ false → withTasks t (t .live) (set (t .tasks) i (runs (taskAt t i))) ≡ started t i
-    unfolding started
-    start-runs k = rw (lt-ltb i 64 h, ← e, not-false b k)
+    pub alter-live : not b ≡ false → withTasks t (t .live) (set (t .tasks) i a) ≡ alteredAt t i a
+    unfolding alteredAt
+    alter-live k = rw (lt-ltb i 64 h, ← e, not-false b k)
 
-pub ruleset start-ways = (start-past, start-dead, start-runs)
+pub ruleset alter-ways = (alter-past, alter-dead, alter-live)
 
 -- ---- the pass that ends what is picked
 
@@ -201,16 +209,34 @@ pub ruleset end-loop = (end-start, end-wiped, end-kept, end-all, unmapped)
 
 -- ---- finish and total reset
 
-module _ (t : Table) (a : Task) {failed : Bool} {u v : Table} (e : v ≡ endedBy u (runningAs (a .arrival))) where
-  pub finish-failed : {l : List unit.Unit} → u ≡ withUnits t l → l ≡ claimedIn (t .units) (a .unit) (a .path) → failed ≡ true → v ≡ finished t a failed
-  unfolding finished
-  finish-failed d h k = e ∙ rw (d, h, k)
+-- the table that a failed task leaves, and one that did not fail
+module _ (t : Table) (a : Task) {failed : Bool} {u : Table} where
+  pub claims : {l : List unit.Unit} → u ≡ withUnits t l → l ≡ claimedIn (t .units) (a .unit) (a .path) → failed ≡ true → u ≡ claimedBy t a failed
+  claims d h k = d ∙ rw (h, k)
 
-  pub finish-well : u ≡ t → failed ≡ false → v ≡ finished t a failed
-  unfolding finished
-  finish-well d k = e ∙ rw (d, k)
+  pub claims-nothing : u ≡ t → failed ≡ false → u ≡ claimedBy t a failed
+  claims-nothing d k = d ∙ rw k
 
-pub ruleset finish-ways = (finish-failed, finish-well)
+module _ (t : Table) {i : ℕ} (failed : Bool) (transferred : ℕ) where
+  pub finish-past : 64 ≤ i → t ≡ finished t i failed transferred
+  unfolding finished
+  finish-past h = rw (le-ltb i 64 h)
+
+  module _ {b : Bool} (h : i < 64) (e : b ≡ isLive (t .live) i) where
+    pub finish-dead : not b ≡ true → t ≡ finished t i failed transferred
+    unfolding finished
+    finish-dead k = rw (lt-ltb i 64 h, ← e, not-true b k)
+
+    module _ (k : not b ≡ false) {u : Table} (d : u ≡ claimedBy t (taskAt t i) failed) where
+      pub finish-stays : taskAt t i .confirm ≡ true → withTasks u (u .live) (set (u .tasks) i (awaits transferred (taskAt t i))) ≡ finished t i failed transferred
+      unfolding finished
+      finish-stays c = rw (lt-ltb i 64 h, ← e, not-false b k, d) (chosen _ (sym c) (alter-live (claimedBy t (taskAt t i) failed) (awaits transferred (taskAt t i)) h e k))
+
+      pub finish-ends : {v : Table} {s : Selection} → taskAt t i .confirm ≡ false → v ≡ endedBy u s → s ≡ runningAs (taskAt t i .arrival) → v ≡ finished t i failed transferred
+      unfolding finished
+      finish-ends c f n = f ∙ rw (lt-ltb i 64 h, ← e, not-false b k, c, d, n)
+
+pub ruleset finish-ways = (claims, claims-nothing, finish-past, finish-dead, finish-stays, finish-ends)
 
 pub reset-all : (t : Table) {l : List path.Path} {u : unit.Unit} {a : Task} → l ≡ alarmedIn (t .paths) (t .count) true → u ≡ noUnit → a ≡ noTask
     → record { live = 0; next = t .next; count = t .count; attached = t .attached; paths = l; units = replicate 8 u; tasks = replicate 64 a } ≡ resetOf t

@@ -1,14 +1,16 @@
--- The check's answers: the clauses that its walks ask at each place, an ACA past the end, and the owner of an ACA. Assumes nothing.
+-- The check's answers: the clauses that its walks ask at each place, a wiped record, an ACA past the end, and the owner of an ACA. Assumes nothing.
 use Prim.Native.Nat.{ℕ, _≤_, _<_}
 use mathlib.Core.Path.{_≡_, refl, ap}
-use mathlib.Core.Bool.{Bool, false, not, _||_}
+use mathlib.Core.Bool.{Bool, false, not, _&&_, _||_}
 use mathlib.Core.List.{List}
 use lib.Dec.{eqb, ltb}
 use lib.ListN.{length}
 use Rattle.task.specs.Index.{some}
-use Rattle.task.proofs.Ways.{below, past, and-no, and-yes}
+use Rattle.task.specs.Tasks.{isAca, isWaiting}
+use Rattle.task.specs.declared.Task.{Task}
+use Rattle.task.proofs.Ways.{equal, below, past, and-no, and-yes}
 use Rattle.table.specs.Tables.{noUnit, pathAt, unitAt, taskAt, pathOf, bitOf}
-use Rattle.table.specs.Sound.{isNoPath, ownedBy, recordOk, unitOk, acaAt, clashOf}
+use Rattle.table.specs.Sound.{isNoPath, isNoTask, ownedBy, recordOk, unitOk, acaAt, clashOf}
 use Rattle.table.specs.declared.Aca.{Aca}
 use Rattle.table.specs.declared.Aca.the-variants.{Clear, Owned}
 use Rattle.table.specs.declared.Unit as unit
@@ -35,6 +37,13 @@ module _ (t : Table) where
 
   abbrev pub clashBelow : ℕ → Bool
   clashBelow i = some i (clashAt i)
+
+-- ---- a record whose numbers are all 0: what else is asked of it
+
+pub no-numbers : (a : Task) {r : Bool} → a .arrival ≡ 0 → a .transferred ≡ 0 → a .offset ≡ 0 → a .tag ≡ 0 → a .path ≡ 0 → a .unit ≡ 0
+    → r ≡ (isAca (a .kind) && (isWaiting (a .phase) && not (a .confirm))) → r ≡ isNoTask a
+no-numbers a n b o t p u e =
+    and-yes (equal n) (and-yes (equal b) (and-yes (equal o) (and-yes (equal t) (and-yes (equal p) (and-yes (equal u) e)))))
 
 -- ---- a place past the end, and an ACA with an owner
 

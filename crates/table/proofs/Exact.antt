@@ -8,7 +8,7 @@ use mathlib.Core.Logic.{inl, inr}
 use native.Mathlib.Omega.{arith}
 use lib.Dec.{eqb, ltb, leb}
 use borrow.Author.Tests.{ltb-true, ltb-false, leb-true, eqb-true, eqb-false, not-true, lt-ltb, le-ltb, le-leb, eq-eqb, ne-eqb}
-use Rattle.task.specs.Tasks.{noTask, isAca, isRunning}
+use Rattle.task.specs.Tasks.{noTask, isAca, isWaiting, isRunning}
 use Rattle.task.specs.Map.{isLive}
 use Rattle.task.specs.declared.Kind.{Kind}
 use Rattle.task.specs.declared.Kind.the-variants as kind
@@ -45,9 +45,10 @@ aca-zero kind.Head h = absurd (never h refl)
 aca-zero kind.Ordered h = absurd (never h refl)
 aca-zero kind.Simple h = absurd (never h refl)
 
-phase-zero : (p : Phase) → isRunning p ≡ false → p ≡ phase.Waiting
+phase-zero : (p : Phase) → isWaiting p ≡ true → p ≡ phase.Waiting
 phase-zero phase.Waiting h = refl
-phase-zero phase.Running h = absurd (never refl h)
+phase-zero phase.Running h = absurd (never h refl)
+phase-zero phase.Unconfirmed h = absurd (never h refl)
 
 attention-zero : (a : Attention) → isNothing a ≡ true → a ≡ attention.Nothing
 attention-zero attention.Nothing h = refl
@@ -70,13 +71,29 @@ task-zero a h =
     let j = both _ _ (g .1) in
     let k = both _ _ (j .1) in
     let l = both _ _ (k .1) in
+    let m = both _ _ (l .1) in
+    let n = both _ _ (m .1) in
+    let o = both _ _ (n .1) in
     let arrival : a .arrival ≡ 0 = eqb-true _ _ (f .0) in
-    let tag : a .tag ≡ 0 = eqb-true _ _ (g .0) in
-    let path : a .path ≡ 0 = eqb-true _ _ (j .0) in
-    let unit : a .unit ≡ 0 = eqb-true _ _ (k .0) in
-    let kind : a .kind ≡ kind.Aca = aca-zero _ (l .0) in
-    let phase : a .phase ≡ phase.Waiting = phase-zero _ (not-true _ (l .1)) in
-    λ i. record { arrival = arrival i; tag = tag i; path = path i; unit = unit i; kind = kind i; phase = phase i }
+    let transferred : a .transferred ≡ 0 = eqb-true _ _ (g .0) in
+    let offset : a .offset ≡ 0 = eqb-true _ _ (j .0) in
+    let tag : a .tag ≡ 0 = eqb-true _ _ (k .0) in
+    let path : a .path ≡ 0 = eqb-true _ _ (l .0) in
+    let unit : a .unit ≡ 0 = eqb-true _ _ (m .0) in
+    let kind : a .kind ≡ kind.Aca = aca-zero _ (n .0) in
+    let phase : a .phase ≡ phase.Waiting = phase-zero _ (o .0) in
+    let confirm : a .confirm ≡ false = not-true _ (o .1) in
+    λ i. record {
+      arrival = arrival i;
+      transferred = transferred i;
+      offset = offset i;
+      tag = tag i;
+      path = path i;
+      unit = unit i;
+      kind = kind i;
+      phase = phase i;
+      confirm = confirm i;
+    }
 
 -- ---- two tasks that can't both be live
 
@@ -258,7 +275,8 @@ module _ (t : Table) where
       let v = live-at t i e in
       let w = live-at t j f in
       let n : clashAt t i j ≡ false = none-at i j (clashAt t i) (none-at 64 i (clashBelow t) h l) m in
-      never (clash-alike a b r) (rw (v .0, w .0, v .1, w .1) at n)
+      let y : clashAt t i j ≡ true = rw (v .1, w .1, clash-alike a b r, v .0, w .0) in
+      never y n
 
   alone : clashes t ≡ false → (i j : ℕ) (a b : Task) → i < 64 → j < 64 → at t i ≡ some a → at t j ≡ some b → Clash a b → i ≡ j
   alone h i j a b l m e f r = elim (lt-or-le i j) [
@@ -317,8 +335,8 @@ module _ (t : Table) (s : Parts t) where
   no-clash-at i j l m = elim (either-way (clashAt t i j)) [
     | inl h ↦
         let f = both _ _ h in
-        let g = both _ _ (f .0) in
-        let r = alike-clash (taskAt t i) (taskAt t j) (f .1) in
+        let g = both _ _ (f .1) in
+        let r = alike-clash (taskAt t i) (taskAt t j) (f .0) in
         let q : i ≡ j = s .apart i j (taskAt t i) (taskAt t j) l (omega arith) (at-live t i (g .0)) (at-live t j (g .1)) r in
         absurd (omega arith)
     | inr h ↦ h

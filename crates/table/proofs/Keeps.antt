@@ -12,10 +12,11 @@ use lib.ListN.{length, getD, set, replicate, length-append, length-set, length-r
 use lib.Seq.{getD-set-same, getD-set-other, getD-append-add}
 use borrow.Author.Tests.{lt-ltb, le-ltb, ltb-true, ltb-false, leb-true, eq-eqb, ne-eqb, eqb-false}
 use Rattle.task.specs.Index.{some as someBelow, mapAt}
-use Rattle.task.specs.Tasks.{noTask, isAca}
+use Rattle.task.specs.Tasks.{noTask, isAca, isRunning, inPhase, awaits}
 use Rattle.task.specs.Map.{isLive, lowestFree, withBit}
 use Rattle.task.specs.Selections.{picks, named, acaOn, runningOn, runningAs}
 use Rattle.task.specs.declared.Kind.{Kind}
+use Rattle.task.specs.declared.Phase.{Phase}
 use Rattle.task.specs.declared.Task.{Task}
 use Rattle.task.specs.declared.select.Place.the-variants.{Anywhere, On}
 use Rattle.task.proofs.Ways.{either-way, never, cond-ind, both, neither}
@@ -24,11 +25,11 @@ use Rattle.task.proofs.Bits.{mapOf-lt, live-mapOf}
 use Rattle.task.proofs.Maps.{with-lt}
 use Rattle.task.proofs.Lists.{length-mapAt, getD-mapAt, is-mapAt}
 use Rattle.task.proofs.Selecting.{picks-named, picks-aca-on, picks-running-on}
-use Rattle.table.specs.Tables.{noPath, noUnit, pathAt, unitAt, taskAt, isAttached, anyLive, lastArrival, hasRoom, withTasks, withPaths, withUnits, newTask, accepted, endedBy, runs, started, markedIn, attendedIn, alarmedPath, alarmedIn, loses, losersOf, warnedIn, claimedUnit, claimedIn, acaClearedIn, finished, resetOf}
+use Rattle.table.specs.Tables.{noPath, noUnit, pathAt, unitAt, taskAt, isAttached, anyLive, lastArrival, hasRoom, withTasks, withPaths, withUnits, newTask, accepted, endedBy, alteredAt, started, restarted, markedIn, attendedIn, alarmedPath, alarmedIn, loses, losersOf, warnedIn, claimedUnit, claimedIn, acaClearedIn, claimedBy, finished, resetOf}
 use Rattle.table.specs.Setup.{seenBefore, badList, freshPath, freshPaths, pathsOf, freshTable, setupTable}
 use Rattle.table.specs.Sound.{Sound}
 use Rattle.table.specs.View.{at}
-use Rattle.table.specs.Promises.{Good, FreshIsGood, MayCome, AcceptKeeps, EndKeeps, StartedKeeps, ClaimKeeps, ClearKeeps, MarkKeeps, AttendKeeps, AlarmKeeps, WarnKeeps, ResetOfKeeps, ResetIsSetup}
+use Rattle.table.specs.Promises.{Good, FreshIsGood, MayCome, AcceptKeeps, EndKeeps, SameTask, AlterKeeps, ClaimKeeps, ClearKeeps, MarkKeeps, AttendKeeps, AlarmKeeps, WarnKeeps, ResetOfKeeps, ResetIsSetup}
 use Rattle.table.specs.declared.Aca.{Aca}
 use Rattle.table.specs.declared.Aca.the-variants.{Clear, Owned}
 use Rattle.table.specs.declared.Path as path
@@ -36,7 +37,7 @@ use Rattle.table.specs.declared.Unit as unit
 use Rattle.table.specs.declared.Table.{Table}
 use Rattle.table.proofs.Exact.{Clash, same-name, same-arrival, both-run, both-aca, turned, orderIn, sound-by, parts}
 use Rattle.table.proofs.Setting.{few-ids}
-use Rattle.table.proofs.Views.{not-both, at-live, at-dead, at-empty, at-put, at-put-other, ended-task, ran, at-started, at-started-other, at-fresh, withNext, idsOf, ids-at, ids-length, ids-marked, ids-attended, ids-alarmed, ids-warned, none-any, any-empty, ended-from, ended-to}
+use Rattle.table.proofs.Views.{not-both, at-live, at-dead, at-empty, at-put, at-put-other, ended-task, altered-at, altered-other, at-fresh, withNext, idsOf, ids-at, ids-length, ids-marked, ids-attended, ids-alarmed, ids-warned, none-any, any-empty, ended-from, ended-to}
 
 getD-same : {A : Type 0} (n i : ℕ) (d : A) → getD (replicate n d) i d ≡ d
 getD-same zero i d = refl
@@ -258,36 +259,55 @@ put-good t live next k a m l s here other f g =
       ];
     })
 
-run-fits : (t : Table) (k : ℕ) (a : Task) → Sound t → anyLive t (runningOn (a .unit)) ≡ false → k < 64 → at t k ≡ some a → Fits t (t .next) k (runs a)
-run-fits t k a s n l e = record { order = runs-in (parts t s .order k a l e); apart = apart }
+-- the task in record k is the same, and does not run beside another
+same-fits : (t : Table) (k : ℕ) (a b : Task) → Sound t → SameTask a b → (isRunning (b .phase) ≡ true → anyLive t (runningOn (b .unit)) ≡ false) → k < 64
+    → at t k ≡ some a → Fits t (t .next) k b
+same-fits t k a b s x n l e = record { order = same-order (parts t s .order k a l e); apart = apart }
   where
-    runs-in : orderIn t (t .next) a → orderIn t (t .next) (runs a)
-    runs-in o = record { listed = o .listed; attached = o .attached; below = o .below; owned = o .owned }
+    same-order : orderIn t (t .next) a → orderIn t (t .next) b
+    same-order o = record {
+      listed = rw (x .path) (o .listed);
+      attached = rw (x .unit) (o .attached);
+      below = rw (x .arrival) (o .below);
+      owned = rw (x .kind, x .unit, x .path) (o .owned);
+    }
 
-    apart : (j : ℕ) (b : Task) → j < 64 → at t j ≡ some b → Clash (runs a) b → k ≡ j
-    apart j b m f (same-name p q) = s .one-tag k j a b l m e f p q
-    apart j b m f (same-arrival p) = s .one-arrival k j a b l m e f p
-    apart j b m f (both-run _ r p) = absurd (none-any t (runningOn (a .unit)) n m f (picks-running-on b (a .unit) ∙ rw (eq-eqb _ _ (sym p)) r))
-    apart j b m f (both-aca h r p) = s .one-aca k j a b l m e f h r p
+    apart : (j : ℕ) (c : Task) → j < 64 → at t j ≡ some c → Clash b c → k ≡ j
+    apart j c m f (same-name p q) = s .one-tag k j a c l m e f (sym (x .path) ∙ p) (sym (x .tag) ∙ q)
+    apart j c m f (same-arrival p) = s .one-arrival k j a c l m e f (sym (x .arrival) ∙ p)
+    apart j c m f (both-run h r p) = absurd (none-any t (runningOn (b .unit)) (n h) m f (picks-running-on c (b .unit) ∙ rw (eq-eqb _ _ (sym p)) r))
+    apart j c m f (both-aca h r p) = s .one-aca k j a c l m e f (rw (x .kind) at h) r (sym (x .unit) ∙ p)
 
-pub start-keeps : StartedKeeps
-unfolding started
-start-keeps t k g n =
-    cond-ind (λ (u : Table). (k < 64 → at u k ≡ ran (at t k)) → ((i : ℕ) → (i ≡ k → ⊥) → at u i ≡ at t i) → Good u) (ltb k 64 && isLive (t .live) k)
+pub alter-keeps : AlterKeeps
+unfolding alteredAt
+alter-keeps t k b g x n =
+    cond-ind
+    (λ (u : Table). (k < 64 → at t k ≡ some (taskAt t k) → at u k ≡ some b) → ((i : ℕ) → (i ≡ k → ⊥) → at u i ≡ at t i) → Good u)
+    (ltb k 64 && isLive (t .live) k)
     (λ y here other.
-    let b = both (ltb k 64) _ y in
-    let l = ltb-true k 64 (b .0) in
-    let e = at-live t k (b .1) in
-    put-good t (t .live) (t .next) k (runs (taskAt t k)) (g .shaped .map) (omega arith) (g .shaped .next) (here l ∙ rw e) other
-    (run-fits t k (taskAt t k) (g .sound) n l e) g)
-    (λ _ _ _. g) (at-started t k (g .shaped)) (at-started-other t k)
+    let c = both (ltb k 64) _ y in
+    let l = ltb-true k 64 (c .0) in
+    let e = at-live t k (c .1) in
+    put-good t (t .live) (t .next) k b (g .shaped .map) (omega arith) (g .shaped .next) (here l e) other
+    (same-fits t k (taskAt t k) b (g .sound) x n l e) g)
+    (λ _ _ _. g) (λ l e. altered-at t k b (g .shaped) l e) (altered-other t k b)
 
-new-fits : (t : Table) (path tag unit : ℕ) (kind : Kind) (k : ℕ) → Sound t → MayCome t path tag unit kind
-    → Fits t (t .next + 1) k (newTask t path tag unit kind)
-new-fits t path tag unit kind k s m =
+-- a task in another phase is the same task
+pub same-in : (phase : Phase) (transferred offset : ℕ) (a : Task) → SameTask a (inPhase phase transferred offset a)
+same-in phase transferred offset a = record { arrival = refl; tag = refl; path = refl; unit = refl; kind = refl }
+
+pub start-keeps : (t : Table) (i : ℕ) → Good t → anyLive t (runningOn (taskAt t i .unit)) ≡ false → Good (started t i)
+start-keeps t i g n = alter-keeps t i _ g (same-in _ _ _ (taskAt t i)) (λ _. n)
+
+pub restart-keeps : (t : Table) (i offset : ℕ) → Good t → Good (restarted t i offset)
+restart-keeps t i offset g = alter-keeps t i _ g (same-in _ _ _ (taskAt t i)) (λ r. absurd (never r refl))
+
+new-fits : (t : Table) (path tag unit : ℕ) (kind : Kind) (confirm : Bool) (k : ℕ) → Sound t → MayCome t path tag unit kind
+    → Fits t (t .next + 1) k (newTask t path tag unit kind confirm)
+new-fits t path tag unit kind confirm k s m =
     record { order = record { listed = m .listed; attached = m .attached; below = omega arith; owned = m .owner }; apart = apart }
   where
-    apart : (j : ℕ) (b : Task) → j < 64 → at t j ≡ some b → Clash (newTask t path tag unit kind) b → k ≡ j
+    apart : (j : ℕ) (b : Task) → j < 64 → at t j ≡ some b → Clash (newTask t path tag unit kind confirm) b → k ≡ j
     apart j b l e (same-name p q) =
         absurd (none-any t (named path tag) (m .free) l e (picks-named b path tag ∙ rw (eq-eqb _ _ (sym p)) (eq-eqb _ _ (sym q))))
     apart j b l e (same-arrival p) = absurd (let h = s .below-next j b l e in omega arith)
@@ -296,16 +316,16 @@ new-fits t path tag unit kind k s m =
 
 pub accept-keeps : AcceptKeeps
 unfolding accepted hasRoom
-accept-keeps t path tag unit kind g m =
+accept-keeps t path tag unit kind confirm g m =
     cond-ind Good (hasRoom t)
     (λ y.
     let b = both (ltb (lowestFree (t .live)) 64) _ y in
     let l = ltb-true (lowestFree (t .live)) 64 (b .0) in
     let n = leb-true (t .next) lastArrival (b .1) in
     let k = lowestFree (t .live) in
-    let a = newTask t path tag unit kind in
+    let a = newTask t path tag unit kind confirm in
     put-good t (withBit (t .live) k) (t .next + 1) k a (with-lt (t .live) k (g .shaped .map)) (omega arith) (omega arith)
-    (at-put t k a (g .shaped) l) (at-put-other t k a) (new-fits t path tag unit kind k (g .sound) m) g)
+    (at-put t k a (g .shaped) l) (at-put-other t k a) (new-fits t path tag unit kind confirm k (g .sound) m) g)
     (λ _. g)
 
 -- what may come to t may come to t with other paths
@@ -313,13 +333,22 @@ pub may-come : {t : Table} (l : List path.Path) {path tag unit : ℕ} {kind : Ki
 unfolding anyLive
 may-come l m = record { listed = m .listed; attached = m .attached; free = m .free; owner = m .owner; alone = m .alone }
 
--- the task that finishes is live
-pub finish-keeps : (t : Table) (i : ℕ) (a : Task) (failed : Bool) → Good t → i < 64 → at t i ≡ some a → Good (finished t a failed)
+pub finish-keeps : (t : Table) (i : ℕ) (failed : Bool) (transferred : ℕ) → Good t → Good (finished t i failed transferred)
 unfolding finished
-finish-keeps t i a failed g l e =
-    end-keeps (withUnits t (cond failed (claimedIn (t .units) (a .unit) (a .path)) (t .units))) (runningAs (a .arrival))
-    (cond-ind (λ (us : List unit.Unit). Good (withUnits t us)) failed
-    (λ _. claim-keeps t (a .unit) (a .path) g (g .sound .attached i a l e) (g .sound .listed i a l e)) (λ _. g))
+finish-keeps t i failed transferred g =
+    let a = taskAt t i in
+    cond-ind Good (ltb i 64 && isLive (t .live) i)
+    (λ y.
+    let b = both (ltb i 64) _ y in
+    let l = ltb-true i 64 (b .0) in
+    let e = at-live t i (b .1) in
+    let claimed : Good (claimedBy t a failed) =
+    cond-ind (λ (us : List unit.Unit). Good (withUnits t us)) failed
+    (λ _. claim-keeps t (a .unit) (a .path) g (g .sound .attached i a l e) (g .sound .listed i a l e)) (λ _. g) in
+    cond-ind Good (a .confirm)
+    (λ _. alter-keeps (claimedBy t a failed) i (awaits transferred a) claimed (same-in _ _ _ a) (λ r. absurd (never r refl)))
+    (λ _. end-keeps (claimedBy t a failed) (runningAs (a .arrival)) claimed))
+    (λ _. g)
 
 -- ---- total reset, step by step
 

@@ -6,11 +6,11 @@ use mathlib.Core.List.{List, [], _∷_, map}
 use mathlib.Core.Option.{Option, none, some, Option·none-ne-some}
 use mathlib.Core.Logic.{inl, inr}
 use lib.Dec.{ltb}
-use lib.ListN.{length, getD, set, length-map, List·getD-map}
+use lib.ListN.{length, getD, set, length-map, length-set, List·getD-map}
 use lib.Seq.{getD-set-same, getD-set-other, map-set-same}
 use borrow.Author.Tests.{lt-ltb}
 use Rattle.task.specs.Index.{mapAt}
-use Rattle.task.specs.Tasks.{noTask}
+use Rattle.task.specs.Tasks.{noTask, awaits}
 use Rattle.task.specs.Map.{isLive, lowestFree}
 use Rattle.task.specs.Selections.{picks, picksLive, runningAs}
 use Rattle.task.specs.Next.{Stands}
@@ -22,11 +22,12 @@ use Rattle.task.proofs.Places.{some-at, some-find}
 use Rattle.task.proofs.Bits.{dead-zero, live-mapOf}
 use Rattle.task.proofs.Maps.{with-same, with-other, lowest-free}
 use Rattle.task.proofs.Lists.{getD-mapAt}
-use Rattle.task.proofs.Next.{scan-stands}
-use Rattle.table.specs.Tables.{noPath, zeroTable, taskAt, bitOf, isReset, picksAt, anyLive, pickOf, hasRoom, withPaths, withUnits, putAt, newTask, accepted, endedBy, runs, started, markedIn, attendedIn, alarmedIn, warnedIn, claimedIn, finished, resetOf}
+use Rattle.task.proofs.Next.{scan-stands, found-is-some}
+use Rattle.table.specs.Tables.{noPath, zeroTable, taskAt, bitOf, isReset, picksAt, anyLive, pickOf, hasRoom, withTasks, withPaths, withUnits, putAt, newTask, accepted, endedBy, alteredAt, markedIn, attendedIn, alarmedIn, warnedIn, claimedBy, finished, resetOf}
 use Rattle.table.specs.Setup.{badList, freshTable, setupTable}
 use Rattle.table.specs.Sound.{Shaped}
 use Rattle.table.specs.View.{at}
+use Rattle.table.specs.Promises.{AnyIsFound}
 use Rattle.table.specs.declared.Path as path
 use Rattle.table.specs.declared.Unit as unit
 use Rattle.table.specs.declared.Table.{Table}
@@ -68,8 +69,8 @@ module _ (t : Table) (k : ℕ) (a : Task) where
   at-put-other i n = rw (with-other (t .live) k i n, getD-set-other (t .tasks) k i a noTask n)
 
 -- accept puts its task into a free place where there is room
-module _ (t : Table) (path tag unit : ℕ) (kind : Kind) where
-  pub accepted-put : hasRoom t ≡ true → accepted t path tag unit kind ≡ putAt t (lowestFree (t .live)) (newTask t path tag unit kind)
+module _ (t : Table) (path tag unit : ℕ) (kind : Kind) (confirm : Bool) where
+  pub accepted-put : hasRoom t ≡ true → accepted t path tag unit kind confirm ≡ putAt t (lowestFree (t .live)) (newTask t path tag unit kind confirm)
   unfolding accepted
   accepted-put e = rw e
 
@@ -99,24 +100,29 @@ module _ (t : Table) (s : Selection) (i : ℕ) where
       cases true false a e = rw e
       cases false c a e = refl
 
--- a start changes the phase of its task alone
-abbrev pub ran : Option Task → Option Task
-ran none = none
-ran (some a) = some (runs a)
+-- a live record changes, and no other
+module _ (t : Table) (k : ℕ) (b : Task) where
+  pub altered-live : {a : Task} → k < 64 → at t k ≡ some a → alteredAt t k b ≡ withTasks t (t .live) (set (t .tasks) k b)
+  unfolding alteredAt
+  altered-live l e = rw (lt-ltb k 64 l, live-at t k e .0)
 
-module _ (t : Table) (k : ℕ) where
-  pub at-started : Shaped t → k < 64 → at (started t k) k ≡ ran (at t k)
-  unfolding started at
-  at-started h l =
-      rw (lt-ltb k 64 l)
-      (cond-ind (λ (u : Table). at u k ≡ ran (at t k)) (isLive (t .live) k)
-      (λ b. rw (b, getD-set-same (t .tasks) k (runs (taskAt t k)) noTask (rw (h .tasks) l))) (λ d. rw d))
+  pub altered-at : {a : Task} → Shaped t → k < 64 → at t k ≡ some a → at (alteredAt t k b) k ≡ some b
+  unfolding at
+  altered-at h l e = rw (altered-live l e, live-at t k e .0, getD-set-same (t .tasks) k b noTask (rw (h .tasks) l))
 
-  pub at-started-other : (i : ℕ) → (i ≡ k → ⊥) → at (started t k) i ≡ at t i
-  unfolding started at
-  at-started-other i n =
-      cond-ind (λ (u : Table). at u i ≡ at t i) (ltb k 64 && isLive (t .live) k)
-      (λ _. rw (getD-set-other (t .tasks) k i (runs (taskAt t k)) noTask n)) (λ _. refl)
+  pub altered-other : (i : ℕ) → (i ≡ k → ⊥) → at (alteredAt t k b) i ≡ at t i
+  unfolding alteredAt at
+  altered-other i n =
+      cond-ind (λ (u : Table). at u i ≡ at t i) (ltb k 64 && isLive (t .live) k) (λ _. rw (getD-set-other (t .tasks) k i b noTask n)) (λ _. refl)
+
+-- 64 is no record
+pub altered-none : (t : Table) (b : Task) → alteredAt t 64 b ≡ t
+unfolding alteredAt
+altered-none t b = refl
+
+pub finished-none : (t : Table) (failed : Bool) (transferred : ℕ) → finished t 64 failed transferred ≡ t
+unfolding finished
+finished-none t failed transferred = refl
 
 -- ---- setup and total reset leave no task
 
@@ -200,9 +206,9 @@ module _ (t : Table) where
   tasks-if true live next l = record { rest = refl }
   tasks-if false live next l = record { rest = refl }
 
-  pub accepted-only : (path tag unit : ℕ) (kind : Kind) → OnlyTasks t (accepted t path tag unit kind)
+  pub accepted-only : (path tag unit : ℕ) (kind : Kind) (confirm : Bool) → OnlyTasks t (accepted t path tag unit kind confirm)
   unfolding accepted
-  accepted-only path tag unit kind = tasks-if (hasRoom t) _ _ _
+  accepted-only path tag unit kind confirm = tasks-if (hasRoom t) _ _ _
 
   pub ended-only : (s : Selection) → OnlyTasks t (endedBy t s)
   unfolding endedBy
@@ -212,15 +218,21 @@ module _ (t : Table) where
   unfolding endedBy
   ended-next s = refl
 
-  pub started-only : (k : ℕ) → OnlyTasks t (started t k)
-  unfolding started
-  started-only k = tasks-if (ltb k 64 && isLive (t .live) k) _ _ _
+  pub altered-only : (k : ℕ) (b : Task) → OnlyTasks t (alteredAt t k b)
+  unfolding alteredAt
+  altered-only k b = tasks-if (ltb k 64 && isLive (t .live) k) _ _ _
 
-  pub started-next : (k : ℕ) → started t k .next ≡ t .next
-  unfolding started
-  started-next k = cond-ind (λ (u : Table). u .next ≡ t .next) (ltb k 64 && isLive (t .live) k) (λ _. refl) (λ _. refl)
+  pub altered-next : (k : ℕ) (b : Task) → alteredAt t k b .next ≡ t .next
+  unfolding alteredAt
+  altered-next k b = cond-ind (λ (u : Table). u .next ≡ t .next) (ltb k 64 && isLive (t .live) k) (λ _. refl) (λ _. refl)
 
--- ---- an ending and a change of paths or units, in either order
+  pub altered-shaped : (k : ℕ) (b : Task) → Shaped t → Shaped (alteredAt t k b)
+  unfolding alteredAt
+  altered-shaped k b h =
+      cond-ind Shaped (ltb k 64 && isLive (t .live) k)
+      (λ _. record { map = h .map; next = h .next; paths = h .paths; units = h .units; tasks = length-set (t .tasks) k b ∙ h .tasks }) (λ _. h)
+
+-- ---- an ending, or a record that changes, and a change of paths or units, in either order
 
 pub ended-paths : (t : Table) (s : Selection) (l : List path.Path) → endedBy (withPaths t l) s ≡ withPaths (endedBy t s) l
 unfolding endedBy
@@ -230,11 +242,41 @@ pub ended-units : (t : Table) (s : Selection) (l : List unit.Unit) → endedBy (
 unfolding endedBy
 ended-units t s l = refl
 
--- a finish ends its task, and changes units alone beside that
-pub finished-units : (t : Table) (a : Task) (failed : Bool)
-    → finished t a failed ≡ withUnits (endedBy t (runningAs (a .arrival))) (cond failed (claimedIn (t .units) (a .unit) (a .path)) (t .units))
-unfolding finished
-finished-units t a failed = ended-units t (runningAs (a .arrival)) _
+-- a choice of tables through a change
+through : (f : Table → Table) (c : Bool) (x y : Table) → cond c (f x) (f y) ≡ f (cond c x y)
+through f true x y = refl
+through f false x y = refl
+
+pub altered-paths : (t : Table) (k : ℕ) (b : Task) (l : List path.Path) → alteredAt (withPaths t l) k b ≡ withPaths (alteredAt t k b) l
+unfolding alteredAt
+altered-paths t k b l = through (λ u. withPaths u l) (ltb k 64 && isLive (t .live) k) (withTasks t (t .live) (set (t .tasks) k b)) t
+
+pub altered-units : (t : Table) (k : ℕ) (b : Task) (l : List unit.Unit) → alteredAt (withUnits t l) k b ≡ withUnits (alteredAt t k b) l
+unfolding alteredAt
+altered-units t k b l = through (λ u. withUnits u l) (ltb k 64 && isLive (t .live) k) (withTasks t (t .live) (set (t .tasks) k b)) t
+
+-- a finish has a task with CONFIRM wait to be confirmed, ends any other, and changes units alone beside that
+abbrev pub awaitedAt : Table → ℕ → Task → Bool → ℕ → Table
+awaitedAt t i a failed transferred = withUnits (alteredAt t i (awaits transferred a)) (claimedBy t a failed .units)
+
+abbrev pub endedAs : Table → Task → Bool → Table
+endedAs t a failed = withUnits (endedBy t (runningAs (a .arrival))) (claimedBy t a failed .units)
+
+module _ (t : Table) (i : ℕ) {a : Task} (failed : Bool) (transferred : ℕ) (l : i < 64) (e : at t i ≡ some a) where
+  pub finished-ways : (P : Table → Type 0) → (a .confirm ≡ true → P (awaitedAt t i a failed transferred))
+      → (a .confirm ≡ false → P (endedAs t a failed)) → P (finished t i failed transferred)
+  unfolding finished
+  finished-ways P f g =
+      let v = live-at t i e in
+      rw (lt-ltb i 64 l, v .0, v .1)
+      (cond-ind P (a .confirm) (λ c. rw (altered-units t i (awaits transferred a) (claimedBy t a failed .units)) (f c))
+      (λ c. rw (ended-units t (runningAs (a .arrival)) (claimedBy t a failed .units)) (g c)))
+
+  pub finished-awaits : a .confirm ≡ true → finished t i failed transferred ≡ awaitedAt t i a failed transferred
+  finished-awaits c = finished-ways (λ (u : Table). u ≡ awaitedAt t i a failed transferred) (λ _. refl) (λ d. absurd (never c d))
+
+  pub finished-ends : a .confirm ≡ false → finished t i failed transferred ≡ endedAs t a failed
+  finished-ends c = finished-ways (λ (u : Table). u ≡ endedAs t a failed) (λ d. absurd (never d c)) (λ _. refl)
 
 -- ---- some live task is picked, by places
 
@@ -269,8 +311,15 @@ module _ (t : Table) (s : Selection) where
   unfolding pickOf
   pick-stands h e = subst (λ (n : ℕ). Stands (t .live) s (t .tasks) n (pickOf t s)) (h .tasks) (scan-stands (t .live) s (t .tasks) e)
 
-  pub pick-at : Shaped t → pickOf t s .found ≡ true → Found t s (pickOf t s .at) (taskAt t (pickOf t s .at))
-  pick-at h e = let r = pick-stands h e in found-at (pickOf t s .at) (r .below) (r .takes)
+  pub pick-at : Shaped t → pickOf t s .found ≡ true → Found t s (pickOf t s .at) (pickOf t s .task)
+  pick-at h e = let r = pick-stands h e in rw (r .task) (found-at (pickOf t s .at) (r .below) (r .takes))
+
+  pub any-found : length (t .tasks) ≡ 64 → pickOf t s .found ≡ anyLive t s
+  unfolding pickOf anyLive
+  any-found e = rw (← e) (found-is-some (t .live) s (t .tasks))
+
+pub any-is-found : AnyIsFound
+any-is-found t s h = any-found t s (h .tasks)
 
 -- ---- what is live after an ending: what was, and is not picked
 

@@ -4,7 +4,6 @@ use mathlib.Core.Path.{_≡_, refl, ap, _∙_}
 use mathlib.Core.Bool.{Bool, true, false, cond}
 use mathlib.Core.List.{List}
 use mathlib.Core.Option.{Option, none, some}
-use native.Mathlib.Decide.{ℕ-discrete}
 use native.Mathlib.Omega.{arith}
 use borrow.Author.Tests.{ltb-true}
 use Rattle.task.specs.Index.{one}
@@ -14,15 +13,15 @@ use Rattle.task.specs.declared.Task.{Task}
 use Rattle.task.proofs.Ways.{both}
 use Rattle.task.proofs.Places.{sum-ext, sum-zero, sum-change}
 use Rattle.task.proofs.Bits.{ones-count}
-use Rattle.table.specs.Tables.{taskAt, hasRoom, withPaths, withUnits, putAt, newTask, endedBy, started, resetOf}
+use Rattle.table.specs.Tables.{taskAt, hasRoom, withPaths, withUnits, putAt, newTask, endedBy, alteredAt, resetOf}
 use Rattle.table.specs.Setup.{setupTable}
 use Rattle.table.specs.Sound.{Shaped}
 use Rattle.table.specs.View.{at, weightAt, weight}
-use Rattle.table.specs.Promises.{AcceptWeighs, EndWeighs, StartWeighs, SetupWeighs, ResetWeighs, OnesAreLive}
+use Rattle.table.specs.Promises.{AcceptWeighs, EndWeighs, AlterWeighs, SetupWeighs, ResetWeighs, OnesAreLive}
 use Rattle.table.specs.declared.Path as path
 use Rattle.table.specs.declared.Unit as unit
 use Rattle.table.specs.declared.Table.{Table}
-use Rattle.table.proofs.Views.{at-put, at-put-other, accepted-put, at-free, spared, at-ended, ran, at-started, at-started-other, at-setup, at-reset, same-at}
+use Rattle.table.proofs.Views.{at-put, at-put-other, accepted-put, at-free, spared, at-ended, altered-at, altered-other, at-setup, at-reset, same-at}
 
 -- by places: each weighs the same, none has a task, one is filled
 pub weight-ext : (f g : Task → ℕ) (t u : Table) → ((i : ℕ) → i < 64 → weightAt f (at t i) ≡ weightAt g (at u i)) → weight f t ≡ weight g u
@@ -45,9 +44,10 @@ weight-same f t paths units = weight-ext f f (withPaths (withUnits t units) path
 
 pub accept-weighs : AcceptWeighs
 unfolding hasRoom
-accept-weighs f t path tag unit kind h e =
+accept-weighs f t path tag unit kind confirm h e =
     let l : lowestFree (t .live) < 64 = ltb-true _ _ (both _ _ e .0) in
-    ap (weight f) (accepted-put t path tag unit kind e) ∙ weight-put f t (lowestFree (t .live)) (newTask t path tag unit kind) h l (at-free t l)
+    ap (weight f) (accepted-put t path tag unit kind confirm e)
+    ∙ weight-put f t (lowestFree (t .live)) (newTask t path tag unit kind confirm) h l (at-free t l)
 
 pub end-weighs : EndWeighs
 end-weighs f t s h = weight-ext f (λ a. cond (picks s a) 0 (f a)) (endedBy t s) t (λ i l. ap (weightAt f) (at-ended t s i h l) ∙ left (at t i))
@@ -60,17 +60,12 @@ end-weighs f t s h = weight-ext f (λ a. cond (picks s a) 0 (f a)) (endedBy t s)
     left none = refl
     left (some a) = weighed (picks s a) a
 
-pub start-weighs : StartWeighs
-start-weighs f t k h e =
-    weight-ext f f (started t k) t
-    (λ i l. elim (ℕ-discrete i k) [
-      | yes q ↦ rw q (ap (weightAt f) (at-started t k h (rw q at l)) ∙ run (at t k))
-      | no n ↦ ap (weightAt f) (at-started-other t k i n)
-    ])
-  where
-    run : (x : Option Task) → weightAt f (ran x) ≡ weightAt f x
-    run none = refl
-    run (some a) = e a
+pub alter-weighs : AlterWeighs
+unfolding weight
+alter-weighs f t k a b h l e =
+    let c =
+    sum-change 64 k (λ i. weightAt f (at (alteredAt t k b) i)) (λ i. weightAt f (at t i)) l (λ i _ n. ap (weightAt f) (altered-other t k b i n)) in
+    omega (arith, c, ap (weightAt f) e, ap (weightAt f) (altered-at t k b h l e))
 
 pub setup-weighs : SetupWeighs
 setup-weighs f ids attached next = weight-none f (setupTable ids attached next) (at-setup ids attached next)

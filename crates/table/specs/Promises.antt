@@ -4,21 +4,22 @@ use Prim.Native.Nat.{ℕ, _+_, _<_, _^_}
 use mathlib.Core.Path.{_≡_}
 use mathlib.Core.Bool.{Bool, true, false, cond}
 use mathlib.Core.List.{List}
+use mathlib.Core.Option.{some}
 use lib.ListN.{length, getD}
 use lib.Count.{ones}
-use Rattle.task.specs.Tasks.{isAca}
+use Rattle.task.specs.Tasks.{isAca, isRunning}
 use Rattle.task.specs.Selections.{picks, named, acaOn, runningOn}
 use Rattle.task.specs.declared.Kind.{Kind}
 use Rattle.task.specs.declared.Task.{Task}
 use Rattle.task.specs.declared.select.Selection.{Selection}
 use Rattle.task.specs.declared.select.Place.{Place}
 use Rattle.task.specs.declared.select.Place.the-variants.{Anywhere, On}
-use Rattle.table.specs.Tables.{pathAt, unitAt, taskAt, isAttached, anyLive, hasRoom, newTask, runs, withPaths, withUnits}
+use Rattle.table.specs.Tables.{pathAt, unitAt, taskAt, isAttached, anyLive, pickOf, hasRoom, newTask, withPaths, withUnits}
 use Rattle.table.specs.Tables.{markedIn, attendedIn, alarmedIn, warnedIn, losersOf, claimedIn, acaClearedIn}
-use Rattle.table.specs.Tables.{accepted, endedBy, started, resetOf}
+use Rattle.table.specs.Tables.{accepted, endedBy, alteredAt, resetOf}
 use Rattle.table.specs.Setup.{badList, setupTable}
 use Rattle.table.specs.Sound.{Shaped, Sound, soundOf}
-use Rattle.table.specs.View.{weight}
+use Rattle.table.specs.View.{at, weight}
 use Rattle.table.specs.declared.Aca.the-variants.{Owned}
 use Rattle.table.specs.declared.Table.{Table}
 
@@ -45,13 +46,22 @@ pub record MayCome (t : Table) (path tag unit : ℕ) (kind : Kind) : Type 0 wher
   pub alone : isAca kind ≡ true → anyLive t (acaOn unit) ≡ false
 
 abbrev pub AcceptKeeps : Type 0
-AcceptKeeps = (t : Table) (path tag unit : ℕ) (kind : Kind) → Good t → MayCome t path tag unit kind → Good (accepted t path tag unit kind)
+AcceptKeeps = (t : Table) (path tag unit : ℕ) (kind : Kind) (confirm : Bool) → Good t → MayCome t path tag unit kind → Good (accepted t path tag unit kind confirm)
 
 abbrev pub EndKeeps : Type 0
 EndKeeps = (t : Table) (s : Selection) → Good t → Good (endedBy t s)
 
-abbrev pub StartedKeeps : Type 0
-StartedKeeps = (t : Table) (i : ℕ) → Good t → anyLive t (runningOn (taskAt t i .unit)) ≡ false → Good (started t i)
+-- b is the task a, save its phase, bytes and offset
+pub record SameTask (a b : Task) : Type 0 where
+  pub arrival : b .arrival ≡ a .arrival
+  pub tag : b .tag ≡ a .tag
+  pub path : b .path ≡ a .path
+  pub unit : b .unit ≡ a .unit
+  pub kind : b .kind ≡ a .kind
+
+-- a record may change so where its task does not run then, or nothing runs on its unit before: a start, a finish that leaves the task unconfirmed, and a restart
+abbrev pub AlterKeeps : Type 0
+AlterKeeps = (t : Table) (i : ℕ) (b : Task) → Good t → SameTask (taskAt t i) b → (isRunning (b .phase) ≡ true → anyLive t (runningOn (b .unit)) ≡ false) → Good (alteredAt t i b)
 
 abbrev pub ClaimKeeps : Type 0
 ClaimKeeps = (t : Table) (unit path : ℕ) → Good t → isAttached t unit ≡ true → path < t .count → Good (withUnits t (claimedIn (t .units) unit path))
@@ -84,20 +94,25 @@ abbrev pub ResetIsSetup : Type 0
 ResetIsSetup = (t : Table) (ids : List ℕ) → Good t → length ids ≡ t .count → ((p : ℕ) → p < t .count → pathAt t p .id ≡ getD ids p 0)
     → resetOf t ≡ setupTable ids (t .attached) (t .next)
 
+-- ---- some live task is picked exactly where the scan finds one
+
+abbrev pub AnyIsFound : Type 0
+AnyIsFound = (t : Table) (s : Selection) → Shaped t → pickOf t s .found ≡ anyLive t s
+
 -- ---- what a change does to the tasks: by their weight, for any weight of tasks
 
 -- where there is room, a new task adds its own weight
 abbrev pub AcceptWeighs : Type 0
-AcceptWeighs = (f : Task → ℕ) (t : Table) (path tag unit : ℕ) (kind : Kind) → Shaped t → hasRoom t ≡ true
-    → weight f (accepted t path tag unit kind) ≡ weight f t + f (newTask t path tag unit kind)
+AcceptWeighs = (f : Task → ℕ) (t : Table) (path tag unit : ℕ) (kind : Kind) (confirm : Bool) → Shaped t → hasRoom t ≡ true
+    → weight f (accepted t path tag unit kind confirm) ≡ weight f t + f (newTask t path tag unit kind confirm)
 
 -- ending takes out what is picked, and nothing else
 abbrev pub EndWeighs : Type 0
 EndWeighs = (f : Task → ℕ) (t : Table) (s : Selection) → Shaped t → weight f (endedBy t s) ≡ weight (λ a. cond (picks s a) 0 (f a)) t
 
--- a start changes no weight that does not look at the phase
-abbrev pub StartWeighs : Type 0
-StartWeighs = (f : Task → ℕ) (t : Table) (i : ℕ) → Shaped t → ((a : Task) → f (runs a) ≡ f a) → weight f (started t i) ≡ weight f t
+-- a record that changes has the new task's weight in place of the old one's
+abbrev pub AlterWeighs : Type 0
+AlterWeighs = (f : Task → ℕ) (t : Table) (i : ℕ) (a b : Task) → Shaped t → i < 64 → at t i ≡ some a → weight f (alteredAt t i b) + f a ≡ weight f t + f b
 
 -- setup and total reset leave no task
 abbrev pub SetupWeighs : Type 0

@@ -7,7 +7,7 @@ use mathlib.Core.Option.{none, some}
 use lib.ListN.{length, getD}
 use lib.Dec.{eqb, ltb, leb}
 use Rattle.task.specs.Index.{all, some as someBelow}
-use Rattle.task.specs.Tasks.{noTask, isAca, isRunning}
+use Rattle.task.specs.Tasks.{noTask, isAca, isWaiting, isRunning}
 use Rattle.task.specs.Map.{isLive}
 use Rattle.task.specs.declared.Task.{Task}
 use Rattle.table.specs.Tables.{noPath, noUnit, pathAt, unitAt, taskAt, bitOf, isAttached, isNothing, pathOf}
@@ -63,7 +63,8 @@ isNoPath a = eqb (a .id) 0 && (not (a .full) && isNothing (a .attention))
 
 abbrev pub isNoTask : Task → Bool
 isNoTask a =
-    eqb (a .arrival) 0 && (eqb (a .tag) 0 && (eqb (a .path) 0 && (eqb (a .unit) 0 && (isAca (a .kind) && not (isRunning (a .phase))))))
+    eqb (a .arrival) 0 && (eqb (a .transferred) 0 && (eqb (a .offset) 0
+    && (eqb (a .tag) 0 && (eqb (a .path) 0 && (eqb (a .unit) 0 && (isAca (a .kind) && (isWaiting (a .phase) && not (a .confirm))))))))
 
 abbrev pub ownedBy : Aca → ℕ → Bool
 ownedBy Clear path = false
@@ -115,7 +116,7 @@ alike a b =
     eqb (a .arrival) (b .arrival) || ((eqb (a .path) (b .path) && eqb (a .tag) (b .tag)) || (shareUnit a b && eqb (a .unit) (b .unit)))
 
 abbrev pub clashOf : ℕ → ℕ → Task → ℕ → Task → Bool
-clashOf live i a j b = (isLive live i && isLive live j) && alike a b
+clashOf live i a j b = alike a b && (isLive live i && isLive live j)
 
 -- some record clashes with one below it
 unfoldable pub clashes : Table → Bool

@@ -5,12 +5,12 @@ use mathlib.Core.List.{List}
 use lib.ListN.{getD, set, replicate}
 use lib.Dec.{eqb, ltb, leb}
 use Rattle.task.specs.Index.{first, some, mapOf, mapAt}
-use Rattle.task.specs.Tasks.{noTask}
+use Rattle.task.specs.Tasks.{noTask, runs, awaits, restarts}
 use Rattle.task.specs.Map.{isLive, lowestFree, withBit}
 use Rattle.task.specs.Selections.{picks, picksLive, fromOn, runningAs}
 use Rattle.task.specs.Scan.{scan}
 use Rattle.task.specs.declared.Kind.{Kind}
-use Rattle.task.specs.declared.Phase.the-variants.{Waiting, Running}
+use Rattle.task.specs.declared.Phase.the-variants.{Waiting}
 use Rattle.task.specs.declared.Task.{Task}
 use Rattle.task.specs.declared.select.Selection.{Selection}
 use Rattle.task.specs.declared.select.Place.{Place}
@@ -117,12 +117,22 @@ putAt t i a = record {
   tasks = set (t .tasks) i a;
 }
 
-abbrev pub newTask : Table → ℕ → ℕ → ℕ → Kind → Task
-newTask t path tag unit kind = record { arrival = t .next; tag = tag; path = path; unit = unit; kind = kind; phase = Waiting }
+abbrev pub newTask : Table → ℕ → ℕ → ℕ → Kind → Bool → Task
+newTask t path tag unit kind confirm = record {
+  arrival = t .next;
+  transferred = 0;
+  offset = 0;
+  tag = tag;
+  path = path;
+  unit = unit;
+  kind = kind;
+  phase = Waiting;
+  confirm = confirm;
+}
 
 -- a new task takes the lowest-numbered free record; with no room nothing changes
-unfoldable pub accepted : Table → ℕ → ℕ → ℕ → Kind → Table
-accepted t path tag unit kind = cond (hasRoom t) (putAt t (lowestFree (t .live)) (newTask t path tag unit kind)) t
+unfoldable pub accepted : Table → ℕ → ℕ → ℕ → Kind → Bool → Table
+accepted t path tag unit kind confirm = cond (hasRoom t) (putAt t (lowestFree (t .live)) (newTask t path tag unit kind confirm)) t
 
 -- every live task that is picked ends: its record is wiped to zero, and its place is live no more
 unfoldable pub endedBy : Table → Selection → Table
@@ -130,12 +140,16 @@ endedBy t s =
     withTasks t (mapOf 64 (λ i. isLive (t .live) i && not (picks s (taskAt t i))))
     (mapAt (λ i a. cond (picksLive (t .live) s i a) noTask a) 0 (t .tasks))
 
-abbrev pub runs : Task → Task
-runs a = record { arrival = a .arrival; tag = a .tag; path = a .path; unit = a .unit; kind = a .kind; phase = Running }
+-- the live task in record i changes; a dead record stays
+unfoldable pub alteredAt : Table → ℕ → Task → Table
+alteredAt t i a = cond (ltb i 64 && isLive (t .live) i) (withTasks t (t .live) (set (t .tasks) i a)) t
 
--- the live task in record i runs
-unfoldable pub started : Table → ℕ → Table
-started t i = cond (ltb i 64 && isLive (t .live) i) (withTasks t (t .live) (set (t .tasks) i (runs (taskAt t i)))) t
+-- it runs; it waits again, to start at an offset
+abbrev pub started : Table → ℕ → Table
+started t i = alteredAt t i (runs (taskAt t i))
+
+abbrev pub restarted : Table → ℕ → ℕ → Table
+restarted t i offset = alteredAt t i (restarts offset (taskAt t i))
 
 -- ---- paths and units
 
@@ -192,10 +206,18 @@ acaClearedIn units (On unit) = cond (ltb unit 8) (set units unit noUnit) units
 
 -- ---- finish and total reset
 
--- the running task with a's arrival number ends; where it failed, a's unit gets ACA owned by a's path, unless it has one
-unfoldable pub finished : Table → Task → Bool → Table
-finished t a failed =
-    endedBy (withUnits t (cond failed (claimedIn (t .units) (a .unit) (a .path)) (t .units))) (runningAs (a .arrival))
+-- where a task failed, its unit gets ACA owned by its path, unless it has one
+abbrev pub claimedBy : Table → Task → Bool → Table
+claimedBy t a failed = withUnits t (cond failed (claimedIn (t .units) (a .unit) (a .path)) (t .units))
+
+-- a task with CONFIRM stays live and waits to be confirmed, with the bytes transferred; any other ends
+abbrev pub leftBy : Table → ℕ → Task → ℕ → Table
+leftBy t i a transferred = cond (a .confirm) (alteredAt t i (awaits transferred a)) (endedBy t (runningAs (a .arrival)))
+
+-- the device has finished the task in record i; a dead record stays
+unfoldable pub finished : Table → ℕ → Bool → ℕ → Table
+finished t i failed transferred =
+    cond (ltb i 64 && isLive (t .live) i) (leftBy (claimedBy t (taskAt t i) failed) i (taskAt t i) transferred) t
 
 -- no task, no mark, no ACA, reset attention on every path; arrival numbers go on
 unfoldable pub resetOf : Table → Table

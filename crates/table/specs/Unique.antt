@@ -3,13 +3,14 @@ use Prim.Native.Nat.{ℕ}
 use mathlib.Core.Bool.{Bool}
 use mathlib.Core.List.{List}
 use Rattle.task.specs.Promises.{One}
+use Rattle.task.specs.Selections.{runningAs}
 use Rattle.task.specs.declared.Kind.{Kind}
 use Rattle.task.specs.declared.Task.{Task}
 use Rattle.task.specs.declared.select.Selection.{Selection}
 use Rattle.task.specs.declared.select.Place.{Place}
-use Rattle.table.specs.Tables.{zeroTable, pathAt, unitAt, taskAt, isAttached, pathOf, anyLive, pickOf, hasRoom}
+use Rattle.table.specs.Tables.{zeroTable, pathAt, unitAt, taskAt, isAttached, pathOf, pickOf, hasRoom}
 use Rattle.table.specs.Tables.{markedIn, attendedIn, alarmedIn, warnedIn, acaClearedIn, losersOf}
-use Rattle.table.specs.Tables.{accepted, endedBy, started, finished, resetOf}
+use Rattle.table.specs.Tables.{accepted, endedBy, started, restarted, finished, resetOf}
 use Rattle.table.specs.Setup.{badList, setupTable}
 use Rattle.table.specs.Sound.{isNoTask, ownedBy, soundOf}
 use Rattle.table.specs.declared.Aca.{Aca}
@@ -28,13 +29,14 @@ pub record AnswersAreOne : Type 0 where
   pub warn : (paths : List path.Path) (losers : ℕ) → One (warnedIn paths losers)
   pub clear-aca : (units : List unit.Unit) (place : Place) → One (acaClearedIn units place)
   pub pick : (t : Table) (s : Selection) → One (pickOf t s)
-  pub any : (t : Table) (s : Selection) → One (anyLive t s)
   pub task-at : (t : Table) (i : ℕ) → One (taskAt t i)
   pub has-room : (t : Table) → One (hasRoom t)
-  pub accept : (t : Table) (path tag unit : ℕ) (kind : Kind) → One (accepted t path tag unit kind)
+  pub accept : (t : Table) (path tag unit : ℕ) (kind : Kind) (confirm : Bool) → One (accepted t path tag unit kind confirm)
   pub end : (t : Table) (s : Selection) → One (endedBy t s)
   pub start : (t : Table) (i : ℕ) → One (started t i)
-  pub finish : (t : Table) (a : Task) (failed : Bool) → One (finished t a failed)
+  pub running-as : (arrival : ℕ) → One (runningAs arrival)
+  pub restart : (t : Table) (i offset : ℕ) → One (restarted t i offset)
+  pub finish : (t : Table) (i : ℕ) (failed : Bool) (transferred : ℕ) → One (finished t i failed transferred)
   pub reset : (t : Table) → One (resetOf t)
   pub losers : (t : Table) (unit sender : ℕ) → One (losersOf t unit sender)
   pub bad-list : (ids : List ℕ) → One (badList ids)

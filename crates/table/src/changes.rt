@@ -1,6 +1,7 @@
 // Tasks: the scan that the table lends its records to, and what is accepted, started, finished, ended and reset.
 ghost use mathlib.Core.Path.{_≡_};
-ghost use Rattle.table.specs.Tables.{anyLive, taskAt, pickOf, hasRoom, accepted, endedBy, started, finished, resetOf, losersOf};
+ghost use Rattle.table.specs.Tables.{taskAt, pickOf, hasRoom, accepted, endedBy, started, restarted, finished, resetOf, losersOf};
+ghost use Rattle.task.specs.Selections.{runningAs};
 ghost use mathlib.Core.Bool.{_&&_, not};
 ghost use lib.Dec.{ltb, eqb};
 ghost use Prim.Native.Nat.{_<_, _+_, _^_};
@@ -25,14 +26,6 @@ impl Table {
         task::scan::next_of(&self.tasks, self.live, s)
     }
 
-    // Whether some live task is picked.
-    pub fn any(self, s: Selection) -> bool
-        ensures { λ r. ⌜ r ≡ anyLive self s ⌝ }
-    {
-        let p = self.pick(s);
-        p.found
-    }
-
     // The record at a place, and a wiped one past the end.
     pub fn task_at(self, i: usize) -> Task
         ensures { λ r. ⌜ r ≡ taskAt self i ⌝ }
@@ -54,8 +47,8 @@ impl Table {
     }
 
     // A new waiting task in the lowest free record, under the next arrival number; with no room nothing changes.
-    pub fn accept(mut self, path: u8, tag: u16, unit: u8, kind: Kind) -> Table
-        ensures { λ r. ⌜ r ≡ accepted self path tag unit kind ⌝ }
+    pub fn accept(mut self, path: u8, tag: u16, unit: u8, kind: Kind, confirm: bool) -> Table
+        ensures { λ r. ⌜ r ≡ accepted self path tag unit kind confirm ⌝ }
     {
         let i = task::map::lowest_free(self.live);
         let next = self.next;
@@ -67,11 +60,14 @@ impl Table {
         }
         let a = Task {
             arrival: next,
+            transferred: 0,
+            offset: 0,
             tag,
             path,
             unit,
             kind,
             phase: Phase::Waiting,
+            confirm,
         };
         self.tasks[i] = a;
         self.live = task::map::with_bit(self.live, i);
@@ -115,22 +111,54 @@ impl Table {
         self
     }
 
-    // The running task with a's arrival number ends; where it failed, a's unit gets ACA owned by a's path, unless it has one.
-    pub fn finish(mut self, a: Task, failed: bool) -> Table
-        ensures { λ r. ⌜ r ≡ finished self a failed ⌝ }
+    // The live task in the record waits again, to start at an offset.
+    pub fn restart(mut self, i: usize, offset: u32) -> Table
+        ensures { λ r. ⌜ r ≡ restarted self i offset ⌝ }
     {
-        let all = Selection::ALL;
-        let s = Selection {
-            number: Number::Exactly(a.arrival),
-            stage: Stage::Now(Phase::Running),
-            ..all
+        if i >= RECORDS {
+            return self;
+        }
+        if !task::map::is_live(self.live, i) {
+            return self;
+        }
+        let a = self.tasks[i];
+        let b = Task {
+            phase: Phase::Waiting,
+            offset,
+            ..a
         };
+        self.tasks[i] = b;
+        self
+    }
+
+    // The device has finished the live task in the record: with CONFIRM it waits to be confirmed, else it ends.
+    // Where it failed, its unit gets ACA owned by its path, unless it has one.
+    pub fn finish(mut self, i: usize, failed: bool, transferred: u64) -> Table
+        ensures { λ r. ⌜ r ≡ finished self i failed transferred ⌝ }
+    {
+        if i >= RECORDS {
+            return self;
+        }
+        if !task::map::is_live(self.live, i) {
+            return self;
+        }
+        let a = self.tasks[i];
+        let confirm = a.confirm;
         if failed {
             let units = self.units;
             let claimed = crate::paths::claim(units, a.unit, a.path);
             self.units = claimed;
         }
-        self.end(s)
+        if confirm {
+            let b = Task {
+                phase: Phase::Unconfirmed,
+                transferred,
+                ..a
+            };
+            self.tasks[i] = b;
+            return self;
+        }
+        self.end(running_as(a.arrival))
     }
 
     // Total reset: no task, no mark, no ACA, reset attention on every listed path; arrival numbers go on.
@@ -170,6 +198,18 @@ impl Table {
             p += 1;
         }
         map
+    }
+}
+
+// The running task with an arrival number.
+pub fn running_as(arrival: u64) -> Selection
+    ensures { λ r. ⌜ r ≡ runningAs arrival ⌝ }
+{
+    let all = Selection::ALL;
+    Selection {
+        number: Number::Exactly(arrival),
+        stage: Stage::Now(Phase::Running),
+        ..all
     }
 }
 

@@ -219,11 +219,11 @@ pub fn clear_aca(mut units: [Unit; 8], place: Place) -> [Unit; 8]
 
 impl Table {
     // The place of an id among the listed paths, or 8.
-    pub fn path_of(self, id: u32) -> usize
+    pub fn path_of(self, id: u32) -> u8
         ensures { λ r. ⌜ r ≡ pathOf self id ⌝ }
     {
         let paths = self.paths;
-        place_of(paths, self.count, id)
+        place_of(paths, self.count, id) as u8
     }
 
     // The path at a place, and a wiped one past the end.
@@ -233,7 +233,8 @@ impl Table {
         if p >= PATHS {
             return no_path();
         }
-        self.paths[p]
+        let paths = self.paths;
+        paths[p]
     }
 
     // A unit, and a wiped one past the end.
@@ -244,7 +245,8 @@ impl Table {
         if u >= UNITS {
             return no_unit();
         }
-        self.units[u]
+        let units = self.units;
+        units[u]
     }
 
     // Whether the unit is attached.

@@ -1,6 +1,6 @@
 // The soundness check: a small function for each clause of page 01's "Sound means", and the pairwise walk.
 ghost use mathlib.Core.Path.{_≡_};
-ghost use Rattle.task.specs.Tasks.{isAca, isRunning};
+ghost use Rattle.task.specs.Tasks.{isAca, isWaiting, isRunning};
 ghost use Rattle.table.specs.Sound.{isNoPath, isNoTask, ownedBy, mayStand, liveOk, recordOk, unitOk, countOk, pathsDistinct, unusedZero, recordsOk, unitsOk, clashOf, soundOf, acaAt, shareUnit};
 ghost use Rattle.table.specs.Sound;
 use crate::Aca;
@@ -25,12 +25,23 @@ fn is_aca(k: Kind) -> bool
     }
 }
 
+fn is_waiting(p: Phase) -> bool
+    ensures { λ r. ⌜ r ≡ isWaiting p ⌝ }
+{
+    match p {
+        Phase::Waiting => true,
+        Phase::Running => false,
+        Phase::Unconfirmed => false,
+    }
+}
+
 fn is_running(p: Phase) -> bool
     ensures { λ r. ⌜ r ≡ isRunning p ⌝ }
 {
     match p {
         Phase::Waiting => false,
         Phase::Running => true,
+        Phase::Unconfirmed => false,
     }
 }
 
@@ -55,6 +66,12 @@ pub fn is_no_task(a: Task) -> bool
     if a.arrival != 0 {
         return false;
     }
+    if a.transferred != 0 {
+        return false;
+    }
+    if a.offset != 0 {
+        return false;
+    }
     if a.tag != 0 {
         return false;
     }
@@ -69,7 +86,10 @@ pub fn is_no_task(a: Task) -> bool
         return false;
     }
     let phase = a.phase;
-    !is_running(phase)
+    if !is_waiting(phase) {
+        return false;
+    }
+    !a.confirm
 }
 
 // Whether the ACA is owned by the path.
@@ -174,14 +194,15 @@ fn share_unit(a: Task, b: Task) -> bool
     false
 }
 
-// Records i and j are live and hold the tasks a and b that can't both be.
+// Records i and j hold the tasks a and b that can't both be live, and are. Few pairs are alike, so that is asked first.
 fn clash(live: u64, i: usize, a: Task, j: usize, b: Task) -> bool
     ensures { λ r. ⌜ r ≡ clashOf live i a j b ⌝ }
 {
+    if !alike(a, b) {
+        return false;
+    }
     if task::map::is_live(live, i) {
-        if task::map::is_live(live, j) {
-            return alike(a, b);
-        }
+        return task::map::is_live(live, j);
     }
     false
 }

@@ -2,7 +2,7 @@
 use Prim.Native.Nat.{ℕ, _-_, _^_, _<_}
 use mathlib.Core.Path.{_≡_, refl, sym, _∙_}
 use mathlib.Core.Bool.{Bool, true, false, not}
-use lib.Dec.{eqb, ltb}
+use lib.Dec.{eqb}
 use lib.Bits.{bitAnd, bitOr}
 use borrow.Author.Tests.{not-true, not-false}
 use Rattle.task.specs.Tasks.{kindNumber, phaseNumber}
@@ -63,15 +63,6 @@ asks-phase p e h l = rw (e, h, l)
 
 pub ruleset asked = (asks-number, asks-path, asks-name, asks-other, asks-unit, asks-kind, asks-phase)
 
--- ---- which of two goes first
-
-module _ (a b : Pick) where
-  pub both-heads : a .head ≡ true → b .head ≡ true → ltb (b .arrival) (a .arrival) ≡ beats a b
-  both-heads h l = rw (h, l)
-
-  pub no-heads : a .head ≡ false → b .head ≡ false → ltb (a .arrival) (b .arrival) ≡ beats a b
-  no-heads h l = rw (h, l)
-
 -- ---- one record is considered
 
 module _ (live : ℕ) (s : Selection) (best : Pick) (i : ℕ) (a : Task) where
@@ -79,17 +70,18 @@ module _ (live : ℕ) (s : Selection) (best : Pick) (i : ℕ) (a : Task) where
   unfolding considered
   no-part {p} e h = rw (← e, not-true p h)
 
-  module _ {p : Bool} {t : Pick} (e : p ≡ picksLive live s i a) (h : not p ≡ false) (k : t ≡ takenAt i a) where
-    pub comes-first : not (best .found) ≡ true → t ≡ considered live s best i a
+  module _ {p : Bool} (e : p ≡ picksLive live s i a) (h : not p ≡ false) where
+    pub comes-first : {t : Pick} → t ≡ takenAt i a → not (best .found) ≡ true → t ≡ considered live s best i a
     unfolding considered
-    comes-first f = rw (← e, not-false p h, f) k
+    comes-first k f = rw (← e, not-false p h, f) k
 
-    pub goes-on : {g : Bool} → not (best .found) ≡ false → g ≡ beats t best → g ≡ true → t ≡ considered live s best i a
-    unfolding considered
-    goes-on f m n = let z : beats (takenAt i a) best ≡ true = rw k at (sym m ∙ n) in rw (← e, not-false p h, f, z) k
+    module _ {g : Bool} (f : not (best .found) ≡ false) (m : g ≡ beats a (best .task)) where
+      pub goes-on : {t : Pick} → t ≡ takenAt i a → g ≡ true → t ≡ considered live s best i a
+      unfolding considered
+      goes-on k n = let z : beats a (best .task) ≡ true = sym m ∙ n in rw (← e, not-false p h, f, z) k
 
-    pub stays : {g : Bool} → not (best .found) ≡ false → g ≡ beats t best → g ≡ false → best ≡ considered live s best i a
-    unfolding considered
-    stays f m n = let z : beats (takenAt i a) best ≡ false = rw k at (sym m ∙ n) in rw (← e, not-false p h, f, z)
+      pub stays : g ≡ false → best ≡ considered live s best i a
+      unfolding considered
+      stays n = let z : beats a (best .task) ≡ false = sym m ∙ n in rw (← e, not-false p h, f, z)
 
 pub ruleset chosen = (no-part, comes-first, goes-on, stays)

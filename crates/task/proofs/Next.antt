@@ -11,7 +11,7 @@ use lib.Dec.{ltb}
 use lib.ListN.{length, getD, drop}
 use borrow.Author.Tests.{ltb-true, ltb-false}
 use Rattle.task.specs.Index.{some}
-use Rattle.task.specs.Tasks.{noTask}
+use Rattle.task.specs.Tasks.{noTask, isHead}
 use Rattle.task.specs.Selections.{picksLive}
 use Rattle.task.specs.Scan.{nobody, takenAt, considered, scanFrom, scan}
 use Rattle.task.specs.Next.{taskAt, Takes, headAt, Stands, Next, no-one, highest-head, lowest, ScanIsNext}
@@ -37,7 +37,7 @@ module _ (live : ℕ) (s : Selection) (tasks : List Task) (k : ℕ) where
   New = Next live s tasks (k + 1)
 
   wider : (r : Pick) → Stands live s tasks k r → Stands live s tasks (k + 1) r
-  wider r t = record { found = t .found; below = (let h : r .at < k = t .below in omega arith); takes = t .takes; head = t .head; arrival = t .arrival }
+  wider r t = record { found = t .found; below = (let h : r .at < k = t .below in omega arith); takes = t .takes; task = t .task }
 
   -- record k takes no part
   skipped : (r : Pick) → picksLive live s k a ≡ false → Old r → New r
@@ -48,7 +48,7 @@ module _ (live : ℕ) (s : Selection) (tasks : List Task) (k : ℕ) where
   -- record k takes part
   module _ (r : Pick) (w : Takes live s tasks k) where
     this : Stands live s tasks (k + 1) (takenAt k a)
-    this = record { found = refl; below = omega arith; takes = w; head = refl; arrival = refl }
+    this = record { found = refl; below = omega arith; takes = w; task = refl }
 
     abbrev got : Pick
     got = considered live s r k a
@@ -60,8 +60,8 @@ module _ (live : ℕ) (s : Selection) (tasks : List Task) (k : ℕ) where
     alone false e f h = subst New (sym (simp (w, f))) (lowest this e (upto _ k (λ i l y. absurd (h i l y)) (λ _. (e, le-refl _))))
 
     -- the best so far is a HEAD OF QUEUE task
-    after-head : (b : Bool) → headAt live s tasks k ≡ b → (c : Bool) → ltb (r .arrival) (a .arrival) ≡ c → Stands live s tasks k r → r .head ≡ true
-        → ((i : ℕ) → i < k → Takes live s tasks i → headAt live s tasks i ≡ true → taskAt live s tasks i .arrival ≤ r .arrival) → New got
+    after-head : (b : Bool) → headAt live s tasks k ≡ b → (c : Bool) → ltb (r .task .arrival) (a .arrival) ≡ c → Stands live s tasks k r → isHead (r .task .kind) ≡ true
+        → ((i : ℕ) → i < k → Takes live s tasks i → headAt live s tasks i ≡ true → taskAt live s tasks i .arrival ≤ r .task .arrival) → New got
     unfolding considered
     after-head true e true c t d h =
         subst New (sym (simp (w, t .found, d, e, c)))
@@ -72,8 +72,8 @@ module _ (live : ℕ) (s : Selection) (tasks : List Task) (k : ℕ) where
         subst New (sym (simp (w, t .found, d, e))) (highest-head (wider r t) d (upto _ k h (λ _ y. absurd (never y e))))
 
     -- it is another
-    after-other : (b : Bool) → headAt live s tasks k ≡ b → (c : Bool) → ltb (a .arrival) (r .arrival) ≡ c → Stands live s tasks k r → r .head ≡ false
-        → ((i : ℕ) → i < k → Takes live s tasks i → (headAt live s tasks i ≡ false) × (r .arrival ≤ taskAt live s tasks i .arrival)) → New got
+    after-other : (b : Bool) → headAt live s tasks k ≡ b → (c : Bool) → ltb (a .arrival) (r .task .arrival) ≡ c → Stands live s tasks k r → isHead (r .task .kind) ≡ false
+        → ((i : ℕ) → i < k → Takes live s tasks i → (headAt live s tasks i ≡ false) × (r .task .arrival ≤ taskAt live s tasks i .arrival)) → New got
     unfolding considered
     after-other true e b c t d h =
         subst New (sym (simp (w, t .found, d, e)))
@@ -86,8 +86,8 @@ module _ (live : ℕ) (s : Selection) (tasks : List Task) (k : ℕ) where
 
     met : Old r → New got
     met (no-one f h) = alone (headAt live s tasks k) refl f h
-    met (highest-head t d h) = after-head (headAt live s tasks k) refl (ltb (r .arrival) (a .arrival)) refl t d h
-    met (lowest t d h) = after-other (headAt live s tasks k) refl (ltb (a .arrival) (r .arrival)) refl t d h
+    met (highest-head t d h) = after-head (headAt live s tasks k) refl (ltb (r .task .arrival) (a .arrival)) refl t d h
+    met (lowest t d h) = after-other (headAt live s tasks k) refl (ltb (a .arrival) (r .task .arrival)) refl t d h
 
   step : (r : Pick) → Old r → New (considered live s r k a)
   unfolding considered

@@ -42,6 +42,7 @@ aca-number kind.Simple = refl
 pub running-number : (p : Phase) → eqb (phaseNumber p) 1 ≡ isRunning p
 running-number phase.Waiting = refl
 running-number phase.Running = refl
+running-number phase.Unconfirmed = refl
 
 -- ---- the selections that the rules speak of
 

@@ -23,19 +23,18 @@ module _ (live : ℕ) (s : Selection) (tasks : List Task) where
   abbrev pub headAt : ℕ → Bool
   headAt i = isHead (taskAt i .kind)
 
-  -- r names a record below n that takes part, its arrival number and whether it is HEAD OF QUEUE
+  -- r names a record below n that takes part, and the task in it
   pub record Stands (n : ℕ) (r : Pick) : Type 0 where
     pub found : r .found ≡ true
     pub below : r .at < n
     pub takes : Takes (r .at)
-    pub head : r .head ≡ headAt (r .at)
-    pub arrival : r .arrival ≡ taskAt (r .at) .arrival
+    pub task : r .task ≡ taskAt (r .at)
 
   -- r is the right answer for the records below n
   pub data Next (n : ℕ) (r : Pick) : Type 0 where
     no-one : r .found ≡ false → ((i : ℕ) → i < n → Takes i → ⊥) → Next n r
-    highest-head : Stands n r → r .head ≡ true → ((i : ℕ) → i < n → Takes i → headAt i ≡ true → taskAt i .arrival ≤ r .arrival) → Next n r
-    lowest : Stands n r → r .head ≡ false → ((i : ℕ) → i < n → Takes i → (headAt i ≡ false) × (r .arrival ≤ taskAt i .arrival)) → Next n r
+    highest-head : Stands n r → isHead (r .task .kind) ≡ true → ((i : ℕ) → i < n → Takes i → headAt i ≡ true → taskAt i .arrival ≤ r .task .arrival) → Next n r
+    lowest : Stands n r → isHead (r .task .kind) ≡ false → ((i : ℕ) → i < n → Takes i → (headAt i ≡ false) × (r .task .arrival ≤ taskAt i .arrival)) → Next n r
 
 -- the scan's answer is right for all records
 abbrev pub ScanIsNext : Type 0

@@ -64,6 +64,10 @@ everyTask = select AnyNumber Anyone Anywhere AnyKind AnyPhase
 abbrev pub named : ℕ → ℕ → Selection
 named path tag = select AnyNumber (Named path tag) Anywhere AnyKind AnyPhase
 
+-- the same with an arrival number
+abbrev pub numberedAs : ℕ → ℕ → ℕ → Selection
+numberedAs arrival path tag = select (Exactly arrival) (Named path tag) Anywhere AnyKind AnyPhase
+
 -- all tasks on a unit, and those of one path there
 abbrev pub onUnit : ℕ → Selection
 onUnit unit = select AnyNumber Anyone (On unit) AnyKind AnyPhase

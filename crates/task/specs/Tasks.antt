@@ -29,11 +29,60 @@ isHead kind.Simple = false
 abbrev pub phaseNumber : Phase → ℕ
 phaseNumber phase.Waiting = 0
 phaseNumber phase.Running = 1
+phaseNumber phase.Unconfirmed = 2
+
+abbrev pub isWaiting : Phase → Bool
+isWaiting phase.Waiting = true
+isWaiting phase.Running = false
+isWaiting phase.Unconfirmed = false
 
 abbrev pub isRunning : Phase → Bool
 isRunning phase.Waiting = false
 isRunning phase.Running = true
+isRunning phase.Unconfirmed = false
+
+abbrev pub isUnconfirmed : Phase → Bool
+isUnconfirmed phase.Waiting = false
+isUnconfirmed phase.Running = false
+isUnconfirmed phase.Unconfirmed = true
 
 -- a record wiped to zero
 abbrev pub noTask : Task
-noTask = record { arrival = 0; tag = 0; path = 0; unit = 0; kind = kind.Aca; phase = phase.Waiting }
+noTask = record {
+  arrival = 0;
+  transferred = 0;
+  offset = 0;
+  tag = 0;
+  path = 0;
+  unit = 0;
+  kind = kind.Aca;
+  phase = phase.Waiting;
+  confirm = false;
+}
+
+-- ---- a record that changes while its task is live; the fields not named stay
+
+abbrev pub inPhase : Phase → ℕ → ℕ → Task → Task
+inPhase phase transferred offset a = record {
+  arrival = a .arrival;
+  transferred = transferred;
+  offset = offset;
+  tag = a .tag;
+  path = a .path;
+  unit = a .unit;
+  kind = a .kind;
+  phase = phase;
+  confirm = a .confirm;
+}
+
+-- it runs
+abbrev pub runs : Task → Task
+runs a = inPhase phase.Running (a .transferred) (a .offset) a
+
+-- the device has finished after so many bytes, and it waits to be confirmed
+abbrev pub awaits : ℕ → Task → Task
+awaits transferred a = inPhase phase.Unconfirmed transferred (a .offset) a
+
+-- it waits again, to start at an offset
+abbrev pub restarts : ℕ → Task → Task
+restarts offset a = inPhase phase.Waiting (a .transferred) offset a

@@ -14,19 +14,25 @@ pub enum Kind {
     Simple,
 }
 
+// Unconfirmed: the device has finished, and the task waits to be confirmed.
 pub enum Phase {
     Waiting,
     Running,
+    Unconfirmed,
 }
 
-// A task's record, 16 bytes: fields lie in the order written, the widest first. The path is its place in the path list.
+// A task's record, 32 bytes: fields lie in the order written, the widest first. The path is its place in the path list.
+// Of a command with CONFIRM it keeps the bytes that the last finish said were transferred, and the offset that it was last restarted at.
 pub struct Task {
     pub arrival: u64,
+    pub transferred: u64,
+    pub offset: u32,
     pub tag: u16,
     pub path: u8,
     pub unit: u8,
     pub kind: Kind,
     pub phase: Phase,
+    pub confirm: bool,
 }
 
 // The record wiped to zero.
@@ -35,11 +41,14 @@ pub fn no_task() -> Task
 {
     Task {
         arrival: 0,
+        transferred: 0,
+        offset: 0,
         tag: 0,
         path: 0,
         unit: 0,
         kind: Kind::Aca,
         phase: Phase::Waiting,
+        confirm: false,
     }
 }
 
@@ -61,5 +70,6 @@ pub(crate) fn phase_number(p: Phase) -> u8
     match p {
         Phase::Waiting => 0,
         Phase::Running => 1,
+        Phase::Unconfirmed => 2,
     }
 }

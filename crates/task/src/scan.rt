@@ -1,58 +1,63 @@
 // The scan of lent records: of the live tasks that a selection picks, the one that goes next.
 ghost use mathlib.Core.Path.{_≡_};
+ghost use Rattle.task.specs.Tasks.{isHead};
 ghost use Rattle.task.specs.Scan.{nobody, takenAt, beats, considered, scan};
 use crate::Kind;
 use crate::Task;
 use crate::select::Selection;
 
-// The best so far: whether there is one, where it stands, and what it is compared by.
+// The best so far: the task, where it stands, and whether there is one.
 pub struct Pick {
-    pub arrival: u64,
+    pub task: Task,
     pub at: usize,
     pub found: bool,
-    pub head: bool,
 }
 
 fn none() -> Pick
     ensures { λ r. ⌜ r ≡ nobody ⌝ }
 {
+    let task = crate::no_task();
     Pick {
-        arrival: 0,
+        task,
         at: 0,
         found: false,
-        head: false,
     }
 }
 
 fn taken_at(i: usize, a: Task) -> Pick
     ensures { λ r. ⌜ r ≡ takenAt i a ⌝ }
 {
-    let kind = a.kind;
-    let head = match kind {
+    Pick {
+        task: a,
+        at: i,
+        found: true,
+    }
+}
+
+fn is_head(k: Kind) -> bool
+    ensures { λ r. ⌜ r ≡ isHead k ⌝ }
+{
+    match k {
         Kind::Head => true,
         Kind::Aca => false,
         Kind::Ordered => false,
         Kind::Simple => false,
-    };
-    Pick {
-        arrival: a.arrival,
-        at: i,
-        found: true,
-        head,
     }
 }
 
 // Whether a goes before b: a HEAD OF QUEUE task before any other, the latest of those first; of the others the earliest.
-fn goes_before(a: Pick, b: Pick) -> bool
+fn goes_before(a: Task, b: Task) -> bool
     ensures { λ r. ⌜ r ≡ beats a b ⌝ }
 {
-    if a.head {
-        if b.head {
+    let k = a.kind;
+    let l = b.kind;
+    if is_head(k) {
+        if is_head(l) {
             return b.arrival < a.arrival;
         }
         return true;
     }
-    if b.head {
+    if is_head(l) {
         return false;
     }
     a.arrival < b.arrival
@@ -65,12 +70,12 @@ fn consider(best: Pick, a: Task, i: usize, live: u64, s: Selection) -> Pick
     if !crate::select::picked_live(live, s, i, a) {
         return best;
     }
-    let this = taken_at(i, a);
     if !best.found {
-        return this;
+        return taken_at(i, a);
     }
-    if goes_before(this, best) {
-        return this;
+    let b = best.task;
+    if goes_before(a, b) {
+        return taken_at(i, a);
     }
     best
 }

@@ -11,10 +11,7 @@ use native.Mathlib.Nat.{pow-suc, div-lt-iff-lt-mul}
 use native.Mathlib.Numerals.{add-one}
 use native.Mathlib.Omega.{arith}
 use borrow.Author.Tests.{lt-ltb, le-ltb}
-use Rattle.wire.specs.declared.codes.StatusByte.{StatusByte}
-use Rattle.wire.specs.declared.codes.Sense.{Sense}
 use Rattle.plan.specs.declared.Answer.{Answer}
-use Rattle.plan.specs.declared.Answer.the-variants.{Status}
 use Rattle.transcript.specs.Lines
 use Rattle.transcript.specs.Lines.{pushed, pushAll, decimalIn, decimalOf, answerText, handedOf, handedIn, Handed}
 use Rattle.transcript.specs.declared.line.Line.{Line}
@@ -102,13 +99,11 @@ module _ (l : Line) {a : Answer} where
   pub says : {b : Answer} {r : Line} → a ≡ b → r ≡ pushAll l (answerText b) → r ≡ pushAll l (answerText a)
   says e p = rw e p
 
-  pub says-status :
-      {tag : ℕ} {status : StatusByte} {sense : Sense} {m r : Line} → a ≡ Status tag status sense
-      → m ≡ pushAll l (Lines.statusWord ++ (Lines.hexWord tag ++ Lines.hexOf (status .0))) → r ≡ pushAll m (Lines.senseText sense) → r ≡ pushAll l (answerText a)
-  unfolding answerText
-  says-status {tag} {status} {sense} e p q = rw e (two-texts l (Lines.statusWord ++ (Lines.hexWord tag ++ Lines.hexOf (status .0))) (Lines.senseText sense) p q)
+  -- in two parts
+  pub says-both : {b : Answer} (x y : List ℕ) {m r : Line} → a ≡ b → m ≡ pushAll l x → r ≡ pushAll m y → x ++ y ≡ answerText b → r ≡ pushAll l (answerText a)
+  says-both x y e p q t = rw (e, ← t) (two-texts l x y p q)
 
-pub ruleset answer-cases = (says-status, says)
+pub ruleset answer-cases = (says-both, says)
 
 -- ---- whole lines
 

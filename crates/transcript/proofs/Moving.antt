@@ -80,7 +80,8 @@ module _ (at : ℕ) where
         given-ends (byteAt s a) _ (le-of-lt k) (byte-later s a) (λ status b l.
         given-ends (byteAt s b) _ (le-of-lt l) (byte-later s b) (λ key c m.
         given-ends (byteAt s c) _ (le-of-lt m) (byte-later s c) (λ code d n.
-        given-ends (byteAt s d) _ (le-of-lt n) (byte-later s d) (λ qualifier next o. o)))))
+        given-ends (byteAt s d) _ (le-of-lt n) (byte-later s d) (λ qualifier e o.
+        given-ends (numberAt s e) _ (le-of-lt o) (later 10 s e) (λ transferred next p. p))))))
 
     kind-ends : (kind : ℕ) → Ends (byKind s kind from)
     unfolding byKind

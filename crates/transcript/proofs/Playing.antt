@@ -113,8 +113,8 @@ module _ (t : Table) (s : List ℕ) {e : Event} {o : Outcome} where
   call-start q a = a ∙ rw q
 
   pub call-finish :
-      {arrival status key code qualifier : ℕ} {buf left : List ℕ} → e ≡ Finish arrival status key code qualifier
-      → Answers (finishOf t arrival (Paper.statusByte status) (Paper.sense key code qualifier) 64) buf o left → o ≡ called t s e
+      {arrival status key code qualifier transferred : ℕ} {buf left : List ℕ} → e ≡ Finish arrival status key code qualifier transferred
+      → Answers (finishOf t arrival (Paper.statusByte status) (Paper.sense key code qualifier) transferred 64) buf o left → o ≡ called t s e
   unfolding called
   call-finish q a = a .outcome ∙ rw q
 

@@ -8,12 +8,16 @@ use lib.Dec.{ltb}
 use native.Mathlib.Omega.{arith}
 use borrow.Author.Tests.{not-true, not-false}
 use Rattle.transcript.specs.Numbers.{numberAt, byteAt, idAt, given}
+use Rattle.transcript.specs.Events.{finishAt}
 use Rattle.transcript.specs.Reading.{noIds, noHeader, keptAt, leastOfNine, idsFrom, afterIds}
 use Rattle.transcript.specs.declared.number.Number.{Number}
 use Rattle.transcript.specs.declared.number.Number.the-variants.{Value, Bad}
+use Rattle.transcript.specs.declared.event.Event.the-variants.{Finish}
+use Rattle.transcript.specs.declared.event.Next.{Next}
+use Rattle.transcript.specs.declared.event.Next.the-variants as next
 use Rattle.transcript.specs.declared.header.Ids.{Ids}
 use Rattle.transcript.specs.declared.header.Header.{Header}
-use Rattle.transcript.proofs.Numbers.{one-less, given-none, given-under, given-cases}
+use Rattle.transcript.proofs.Numbers.{one-less, given-none, given-value, given-under, given-cases}
 use Rattle.transcript.proofs.Choices.{less, not-less, choices}
 
 -- n bytes from a place on, of an input of so many
@@ -31,6 +35,28 @@ module _ {A : Type 0} (size from n : ℕ) (y z : A) where
 pub ruleset message-cases = (given-cases, begins-past, ends-past, fits)
 
 pub ruleset kind-cases = (given-cases, choices)
+
+-- a finish: the five numbers before the last are read, and the last
+module _
+    (s : List ℕ) (at : ℕ) {r₁ r₂ r₃ r₄ r₅ r₆ : Number} {arrival a status b key c code d qualifier e : ℕ} (p₁ : r₁ ≡ numberAt s at) (q₁ : r₁ ≡ Value arrival a)
+    (p₂ : r₂ ≡ byteAt s a) (q₂ : r₂ ≡ Value status b) (p₃ : r₃ ≡ byteAt s b) (q₃ : r₃ ≡ Value key c) (p₄ : r₄ ≡ byteAt s c) (q₄ : r₄ ≡ Value code d)
+    (p₅ : r₅ ≡ byteAt s d) (q₅ : r₅ ≡ Value qualifier e) (p₆ : r₆ ≡ numberAt s e) {x : Next} where
+  last-of-finish :
+      x ≡ given next.Bad (numberAt s e) (λ transferred n. next.Is (Finish arrival (status % 256) (key % 256) (code % 256) (qualifier % 256) transferred) n)
+      → x ≡ finishAt s at
+  unfolding finishAt
+  last-of-finish h =
+      given-value _ _ p₁ q₁ (given-under _ _ 256 _ p₂ q₂ (given-under _ _ 256 _ p₃ q₃ (given-under _ _ 256 _ p₄ q₄ (given-under _ _ 256 _ p₅ q₅ h))))
+
+  pub no-transferred : r₆ ≡ Bad → x ≡ next.Bad → x ≡ finishAt s at
+  no-transferred q h = last-of-finish (given-none _ _ p₆ q h)
+
+  pub whole-finish :
+      {transferred n : ℕ} → r₆ ≡ Value transferred n
+      → x ≡ next.Is (Finish arrival (status % 256) (key % 256) (code % 256) (qualifier % 256) transferred) n → x ≡ finishAt s at
+  whole-finish q h = last-of-finish (given-value _ _ p₆ q h)
+
+pub ruleset finish-cases = (no-transferred, whole-finish)
 
 -- ids, one at a time
 module _ (left : ℕ) (s : List ℕ) (at : ℕ) (ids : List ℕ) (i : ℕ) where

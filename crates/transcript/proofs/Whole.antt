@@ -14,7 +14,7 @@ use borrow.Author.Tests.{lt-ltb, le-ltb}
 use Rattle.task.specs.Map.{liveCount}
 use Rattle.wire.proofs.Table.{cond-ind}
 use Rattle.plan.specs.declared.Answer.{Answer}
-use Rattle.plan.specs.declared.Answer.the-variants.{Ready, Accepted, Response, Status, Started, Reset, Refused}
+use Rattle.plan.specs.declared.Answer.the-variants.{Ready, Accepted, Response, Status, Invalid, Started, Confirmed, Restarted, Reset, Refused}
 use Rattle.transcript.specs.Lines.{emptyLine, pushed, pushAll, decimalIn, answerText, lineOf, handedOf, handedIn, Handed}
 use Rattle.transcript.specs.Playing.{turned, turnText, stepOf, lineLeft, Advances, lastText, lastLine}
 use Rattle.transcript.specs.Promises.{Whole, Leaves}
@@ -54,13 +54,16 @@ decimal-short (suc k) n =
     cond-ind (λ (ds : List ℕ). length ds ≤ suc k) (ltb n 10) (λ t. omega arith)
     (λ t. simp length-append (omega (arith, decimal-short k (n / 10))))
 
-text-short : (a : Answer) → length (answerText a) ≤ 30
+text-short : (a : Answer) → length (answerText a) ≤ 31
 unfolding answerText
 text-short Ready = omega arith
 text-short (Accepted n) = omega (arith, decimal-short 20 n)
 text-short (Response tag code) = omega arith
 text-short (Status tag status sense) = omega arith
-text-short (Started n) = omega (arith, decimal-short 20 n)
+text-short (Invalid tag) = omega arith
+text-short (Started offset arrival) = omega (arith, decimal-short 20 arrival)
+text-short (Confirmed n) = omega (arith, decimal-short 20 n)
+text-short (Restarted n) = omega (arith, decimal-short 20 n)
 text-short Reset = omega arith
 text-short (Refused n) = omega (arith, decimal-short 20 (n .0))
 

@@ -17,14 +17,15 @@ messageAt s at = given Bad (numberAt s at) (λ n from. cond (ltb (length s) (fro
 unfoldable pub startAt : List ℕ → ℕ → Next
 startAt s at = given Bad (byteAt s at) (λ unit next. Is (Start unit) next)
 
--- 3: arrival number, status, key, code, qualifier
+-- 3: arrival number, status, key, code, qualifier, bytes transferred
 unfoldable pub finishAt : List ℕ → ℕ → Next
 finishAt s at =
     given Bad (numberAt s at) (λ arrival a.
     given Bad (byteAt s a) (λ status b.
     given Bad (byteAt s b) (λ key c.
     given Bad (byteAt s c) (λ code d.
-    given Bad (byteAt s d) (λ qualifier next. Is (Finish arrival status key code qualifier) next)))))
+    given Bad (byteAt s d) (λ qualifier e.
+    given Bad (numberAt s e) (λ transferred next. Is (Finish arrival status key code qualifier transferred) next))))))
 
 -- by the event's number; 4 is total reset
 unfoldable pub byKind : List ℕ → ℕ → ℕ → Next

@@ -7,7 +7,7 @@ use lib.ListN.{length, set, replicate, take, drop}
 use lib.Dec.{ltb}
 use Rattle.wire.specs.declared.codes.Sense.{Sense}
 use Rattle.plan.specs.declared.Answer.{Answer}
-use Rattle.plan.specs.declared.Answer.the-variants.{Ready, Accepted, Response, Status, Started, Reset, Refused}
+use Rattle.plan.specs.declared.Answer.the-variants.{Ready, Accepted, Response, Status, Invalid, Started, Confirmed, Restarted, Reset, Refused}
 use Rattle.transcript.specs.declared.line.Line.{Line}
 
 -- ---- words, in ASCII
@@ -29,6 +29,18 @@ responseWord = 32 ∷ 114 ∷ 101 ∷ 115 ∷ 112 ∷ 111 ∷ 110 ∷ 115 ∷ 10
 -- " status"
 abbrev pub statusWord : List ℕ
 statusWord = 32 ∷ 115 ∷ 116 ∷ 97 ∷ 116 ∷ 117 ∷ 115 ∷ []
+
+-- " invalid"
+abbrev pub invalidWord : List ℕ
+invalidWord = 32 ∷ 105 ∷ 110 ∷ 118 ∷ 97 ∷ 108 ∷ 105 ∷ 100 ∷ []
+
+-- " confirmed "
+abbrev pub confirmedWord : List ℕ
+confirmedWord = 32 ∷ 99 ∷ 111 ∷ 110 ∷ 102 ∷ 105 ∷ 114 ∷ 109 ∷ 101 ∷ 100 ∷ 32 ∷ []
+
+-- " restarted "
+abbrev pub restartedWord : List ℕ
+restartedWord = 32 ∷ 114 ∷ 101 ∷ 115 ∷ 116 ∷ 97 ∷ 114 ∷ 116 ∷ 101 ∷ 100 ∷ 32 ∷ []
 
 -- " started "
 abbrev pub startedWord : List ℕ
@@ -89,7 +101,10 @@ answerText (Accepted n) = acceptedWord ++ decimalOf n
 answerText (Response tag code) = responseWord ++ (hexWord tag ++ hexOf (code .0))
 answerText (Status tag status sense) =
     statusWord ++ (hexWord tag ++ (hexOf (status .0) ++ senseText sense))
-answerText (Started n) = startedWord ++ decimalOf n
+answerText (Invalid tag) = invalidWord ++ hexWord tag
+answerText (Started offset arrival) = startedWord ++ decimalOf arrival
+answerText (Confirmed n) = confirmedWord ++ decimalOf n
+answerText (Restarted n) = restartedWord ++ decimalOf n
 answerText Reset = resetWord
 answerText (Refused n) = refusedWord ++ decimalOf (n .0)
 

@@ -49,7 +49,10 @@ isRefused answer.Ready = false
 isRefused (answer.Accepted n) = false
 isRefused (answer.Response tag code) = false
 isRefused (answer.Status tag status sense) = false
-isRefused (answer.Started n) = false
+isRefused (answer.Invalid tag) = false
+isRefused (answer.Started offset arrival) = false
+isRefused (answer.Confirmed n) = false
+isRefused (answer.Restarted n) = false
 isRefused answer.Reset = false
 isRefused (answer.Refused n) = true
 

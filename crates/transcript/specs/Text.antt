@@ -35,7 +35,7 @@ partOf s from until = cond (ltb until from || ltb (length s) until) [] (take (un
 unfoldable pub called : Table → List ℕ → Event → Outcome
 called t s (Message from until) = messageOf t (partOf s from until) 64
 called t s (Start unit) = startOf t unit
-called t s (Finish arrival status key code qualifier) = finishOf t arrival (Paper.statusByte status) (Paper.sense key code qualifier) 64
+called t s (Finish arrival status key code qualifier transferred) = finishOf t arrival (Paper.statusByte status) (Paper.sense key code qualifier) transferred 64
 called t s TotalReset = totalResetOf t
 
 -- by the event at a place: its line and the text after it; `end bad` where it is malformed

@@ -18,6 +18,7 @@ pub enum Event {
         key: u8,
         code: u8,
         qualifier: u8,
+        transferred: u64,
     },
     TotalReset,
 }
@@ -70,7 +71,10 @@ fn finish_at(s: &[u8], at: usize) -> Next
     let Number::Value(code, d) = byte_at(s, c) else {
         return Next::Bad;
     };
-    let Number::Value(qualifier, next) = byte_at(s, d) else {
+    let Number::Value(qualifier, e) = byte_at(s, d) else {
+        return Next::Bad;
+    };
+    let Number::Value(transferred, next) = number_at(s, e) else {
         return Next::Bad;
     };
     Next::Is(
@@ -80,6 +84,7 @@ fn finish_at(s: &[u8], at: usize) -> Next
             key: (key % 256) as u8,
             code: (code % 256) as u8,
             qualifier: (qualifier % 256) as u8,
+            transferred,
         },
         next,
     )

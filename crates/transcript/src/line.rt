@@ -122,7 +122,10 @@ fn push_answer(l: Line, a: Answer) -> Line
             push_reply(l, b" status", tag, status.0),
             sense,
         ),
-        Answer::Started(n) => push_number(l, b" started ", n),
+        Answer::Invalid { tag } => push_tag(push_word(l, b" invalid"), tag),
+        Answer::Started { offset: _, arrival } => push_number(l, b" started ", arrival),
+        Answer::Confirmed(n) => push_number(l, b" confirmed ", n),
+        Answer::Restarted(n) => push_number(l, b" restarted ", n),
         Answer::Reset => push_word(l, b" reset"),
         Answer::Refused(n) => push_number(l, b" refused ", n.0 as u64),
     }

@@ -86,7 +86,13 @@ fn is_refused(answer: Answer) -> bool
             status: _,
             sense: _,
         } => false,
-        Answer::Started(_) => false,
+        Answer::Invalid { tag: _ } => false,
+        Answer::Started {
+            offset: _,
+            arrival: _,
+        } => false,
+        Answer::Confirmed(_) => false,
+        Answer::Restarted(_) => false,
         Answer::Reset => false,
         Answer::Refused(_) => true,
     }
@@ -110,7 +116,17 @@ fn call(t: Table, s: &[u8], e: Event) -> Outcome
             key,
             code,
             qualifier,
-        } => engine::calls::finish(t, arrival, status, key, code, qualifier, &mut reply),
+            transferred,
+        } => engine::calls::finish(
+            t,
+            arrival,
+            status,
+            key,
+            code,
+            qualifier,
+            transferred,
+            &mut reply,
+        ),
         Event::TotalReset => engine::calls::total_reset(t),
     }
 }

@@ -1,4 +1,4 @@
--- The table of masks says what table 5 says of the reserved fields, and a walk over a row's masks finds out which it is.
+-- The table of masks says what tables 5 and 11 say of the reserved fields, and a walk over a row's masks finds out which it is.
 -- Assumes nothing.
 use Prim.Native.Nat.{ℕ, _+_, _*_, _/_, _%_, _^_, _≤_, _<_}
 use mathlib.Core.Path.{_≡_, refl, sym, _∙_}
@@ -6,26 +6,29 @@ use mathlib.Core.Bool.{Bool, true, false, _||_, or-true}
 use mathlib.Core.List.{List, [], _∷_}
 use lib.ListN.{getD, replicate}
 use lib.Bits.{bitAnd, and-zero-r, and-high, and-mask}
-use lib.Dec.{eqb, lit<}
+use lib.Dec.{ltb, eqb, lit<}
 use native.Mathlib.Omega.{arith}
 use mir.Syntax.{w8}
 use mir.Val.{Fits}
 use borrow.Author.Count.{below-none, below-more}
-use borrow.Author.Tests.{eq-eqb, ne-eqb, eqb-true, eqb-false, not-false}
-use Rattle.wire.specs.Paper.{scsiCommand}
+use borrow.Author.Tests.{le-ltb, eq-eqb, ne-eqb, eqb-true, eqb-false, not-false}
+use Rattle.wire.specs.Paper.{scsiCommand, confirmStatus}
 use Rattle.wire.specs.Fields.{byte}
-use Rattle.wire.specs.Messages.{rows, placeOf, rowOf, commandReserved, reservedSet}
+use Rattle.wire.specs.Messages.{rows, placeOf, rowOf, commandReserved, confirmReserved, reservedSet}
 use Rattle.wire.proofs.Table.{every, at, cond-ind, neither}
 
--- a mask for each of the first 16 bytes, with the reserved bits set: a command's, then those of the other rows
+-- a mask for each of the first 17 bytes, with the reserved bits set: a command's, CONFIRM STATUS's, then those of the other rows
 abbrev pub width : ℕ
-width = 16
+width = 17
 
 abbrev command : List ℕ
-command = 0 ∷ 0 ∷ 0 ∷ 0 ∷ 0 ∷ 0 ∷ 0 ∷ 0 ∷ 0 ∷ 0xff ∷ 0x0c ∷ 0xff ∷ 0 ∷ 0 ∷ 0xff ∷ 0xff ∷ []
+command = 0 ∷ 0 ∷ 0 ∷ 0 ∷ 0 ∷ 0 ∷ 0 ∷ 0 ∷ 0 ∷ 0xff ∷ 0x0c ∷ 0xff ∷ 0 ∷ 0 ∷ 0xff ∷ 0xff ∷ 0 ∷ []
+
+abbrev confirm : List ℕ
+confirm = 0 ∷ 0 ∷ 0 ∷ 0 ∷ 0 ∷ 0 ∷ 0 ∷ 0 ∷ 0 ∷ 0 ∷ 0 ∷ 0 ∷ 0 ∷ 0 ∷ 0 ∷ 0 ∷ 0x7f ∷ []
 
 abbrev masks : List (List ℕ)
-masks = command ∷ replicate 6 (replicate width 0)
+masks = command ∷ confirm ∷ replicate 6 (replicate width 0)
 
 -- byte i under its mask in a row
 abbrev under : List ℕ → ℕ → ℕ → ℕ
@@ -33,12 +36,12 @@ under m row i = bitAnd (byte m i) (getD (getD masks row []) i 0)
 
 -- ---- the whole table
 
--- every row but the first has masks of 0
-no-mask : (row i : ℕ) → (row ≡ 0 → ⊥) → getD (getD masks row []) i 0 ≡ 0
+-- every row after the second has masks of 0
+no-mask : (row i : ℕ) → 2 ≤ row → getD (getD masks row []) i 0 ≡ 0
 no-mask row i h =
     eqb-true _ _
     (at 0 (λ _ x. eqb x 0) (getD masks row [])
-    (rw (ne-eqb row 0 h) at (at [] (λ k r. eqb k 0 || every (λ _ x. eqb x 0) r) masks refl row (λ _. or-true (eqb row 0))))
+    (rw (le-ltb row 2 h) at (at [] (λ k r. ltb k 2 || every (λ _ x. eqb x 0) r) masks refl row (λ _. or-true (ltb row 2))))
     i (λ _. refl))
 
 module _ (m : List ℕ) where
@@ -68,13 +71,27 @@ module _ (m : List ℕ) where
   unfolding commandReserved
   none-set z = simp (z .at9, z .at10, z .at11, z .at14, z .at15)
 
-  -- where the fields are zero, the first row's masks pick nothing
+  -- CONFIRM STATUS has one such field
+  zero-field : confirmReserved m ≡ false → byte m 16 % 128 ≡ 0
+  unfolding confirmReserved
+  zero-field e = eqb-true _ _ (not-false _ e)
+
+  not-set : byte m 16 % 128 ≡ 0 → confirmReserved m ≡ false
+  unfolding confirmReserved
+  not-set z = simp z
+
+  -- where the fields are zero, their row's masks pick nothing
   none-picked : Zero → (k : ℕ) → under m 0 k ≡ 0
   none-picked z k =
       eqb-true _ _
       (at 0 (λ i x. eqb (bitAnd (byte m i) x) 0) command
       (simp (and-zero-r, and-high (byte m 10) 2 2, z .at9, z .at10, z .at11, z .at14, z .at15))
       k (λ _. eq-eqb _ _ (and-zero-r (byte m k))))
+
+  not-picked : byte m 16 % 128 ≡ 0 → (k : ℕ) → under m 1 k ≡ 0
+  not-picked z k =
+      eqb-true _ _
+      (at 0 (λ i x. eqb (bitAnd (byte m i) x) 0) confirm (simp (and-zero-r, and-mask (byte m 16) 7, z)) k (λ _. eq-eqb _ _ (and-zero-r (byte m k))))
 
   -- and nowhere else
   all-zero : ((k : ℕ) → Fits w8 (byte m k)) → ((k : ℕ) → k < width → under m 0 k ≡ 0) → Zero
@@ -92,6 +109,9 @@ module _ (m : List ℕ) where
 
       middle : bitAnd (byte m 10) 0x0c ≡ 0 → byte m 10 / 4 % 4 ≡ 0
       middle e = let h : byte m 10 / 4 % 4 * 4 ≡ 0 = sym (and-high (byte m 10) 2 2) ∙ e in omega arith
+
+  field-zero : ((k : ℕ) → k < width → under m 1 k ≡ 0) → byte m 16 % 128 ≡ 0
+  field-zero p = sym (and-mask (byte m 16) 7) ∙ p 16 (lit< tt)
 
 -- ---- the walk
 
@@ -115,32 +135,36 @@ module _ (m : List ℕ) {row x : ℕ} (e : x ≡ byte m 1) (r : row ≡ rowOf x)
   of-row : row ≡ rowOf (byte m 1)
   of-row = rw e at r
 
-  -- a command's row is the first
-  of-command : eqb (byte m 1) scsiCommand ≡ true → row ≡ 0
-  unfolding placeOf
-  of-command h = rw (eqb-true (byte m 1) scsiCommand h) at of-row
-
-  of-other : eqb (byte m 1) scsiCommand ≡ false → row ≡ 0 → ⊥
-  unfolding placeOf
-  of-other h z = let k = rw (ne-eqb scsiCommand (byte m 1) (λ q. eqb-false _ _ h (sym q))) at of-row in omega arith
+  -- the row is a command's, that of CONFIRM STATUS, or one after them
+  each-row : (P : Bool → Type 0) → (row ≡ 0 → P (commandReserved m)) → (row ≡ 1 → P (confirmReserved m)) → (2 ≤ row → P false) → P (reservedSet m)
+  unfolding reservedSet placeOf
+  each-row P first second others =
+      cond-ind P (eqb (byte m 1) scsiCommand) (λ h. first (rw (eqb-true (byte m 1) scsiCommand h) at of-row))
+      (λ n. cond-ind P (eqb (byte m 1) confirmStatus) (λ h. second (rw (eqb-true (byte m 1) confirmStatus h) at of-row))
+      (λ l.
+      let k = rw (is-not scsiCommand n, is-not confirmStatus l) at of-row in
+      others (omega arith)))
+    where
+      is-not : (code : ℕ) → eqb (byte m 1) code ≡ false → eqb code (byte m 1) ≡ false
+      is-not code n = ne-eqb code (byte m 1) (λ q. eqb-false _ _ n (sym q))
 
   pub no-row : row ≡ rows → false ≡ reservedSet m
-  unfolding reservedSet
-  no-row z = cond-ind (λ b. false ≡ b) (eqb (byte m 1) scsiCommand) (λ h. absurd (omega (arith, of-command h))) (λ _. refl)
+  no-row z = each-row (λ b. false ≡ b) (λ h. absurd (omega arith)) (λ h. absurd (omega arith)) (λ _. refl)
 
   pub all-clear : ((k : ℕ) → Fits w8 (byte m k)) → {i : ℕ} → i ≤ width → width ≤ i → Clear m row i → false ≡ reservedSet m
-  unfolding Clear reservedSet
+  unfolding Clear
   all-clear b {i} g h l =
-      cond-ind (λ b. false ≡ b) (eqb (byte m 1) scsiCommand)
-      (λ k. sym (none-set m (all-zero m b (λ j q. rw (of-command k) at (l j (omega arith))))))
+      each-row (λ b. false ≡ b)
+      (λ k. sym (none-set m (all-zero m b (λ j q. rw k at (l j (omega arith))))))
+      (λ k. sym (not-set m (field-zero m (λ j q. rw k at (l j (omega arith))))))
       (λ _. refl)
 
   quiet : reservedSet m ≡ false → (i : ℕ) → under m row i ≡ 0
-  unfolding reservedSet
   quiet =
-      cond-ind (λ b. b ≡ false → (i : ℕ) → under m row i ≡ 0) (eqb (byte m 1) scsiCommand)
-      (λ h z i. rw (of-command h) (none-picked m (zero-fields m z) i))
-      (λ h _ i. rw (no-mask row i (of-other h)) (and-zero-r (byte m i)))
+      each-row (λ b. b ≡ false → (i : ℕ) → under m row i ≡ 0)
+      (λ h z i. rw h (none-picked m (zero-fields m z) i))
+      (λ h z i. rw h (not-picked m (zero-field m z) i))
+      (λ h _ i. rw (no-mask row i h) (and-zero-r (byte m i)))
 
   pub picked : (i : ℕ) {b : ℕ} → b ≡ byte m i → (bitAnd b (getD (getD masks row []) i 0) ≡ 0 → ⊥) → true ≡ reservedSet m
   picked i q n = otherwise (reservedSet m) (λ z. n (rw q (quiet z i)))

@@ -1,6 +1,6 @@
 -- The row of a code in the table of messages, the message of a row, and what is read, case by case.
 -- Assumes nothing.
-use Prim.Native.Nat.{ℕ, suc, _+_, _≤_, _<_, zero-le}
+use Prim.Native.Nat.{ℕ, suc, _+_, _/_, _≤_, _<_, zero-le}
 use mathlib.Core.Path.{_≡_, refl, sym, _∙_}
 use mathlib.Core.Bool.{not}
 use mathlib.Core.List.{List, [], _∷_}
@@ -13,11 +13,11 @@ use native.Mathlib.Omega.{arith}
 use borrow.Author.Tests.{lt-ltb, le-ltb, ltb-false, eq-eqb, ne-eqb, eqb-true, eqb-false, not-true, not-false}
 use Rattle.wire.specs.Paper.{tooShort, notHandled, smsCode}
 use Rattle.wire.specs.Fields.{byte, joined, word, long}
-use Rattle.wire.specs.Messages.{codes, rows, placeOf, rowOf, lengthOf, flagsOf, fieldsOf, readOf}
+use Rattle.wire.specs.Messages.{codes, rows, placeOf, rowOf, lengthOf, flagsOf, confirmOf, fieldsOf, readOf}
 use Rattle.wire.proofs.Table.{cond-ind}
 use Rattle.wire.specs.declared.message.Flags.{Flags}
 use Rattle.wire.specs.declared.message.Message.{Message}
-use Rattle.wire.specs.declared.message.Message.the-variants.{Command, AbortTask, AbortTaskSet, ClearTaskSet, TargetReset, ClearAca, UnitReset, Refused}
+use Rattle.wire.specs.declared.message.Message.the-variants.{Command, ConfirmStatus, AbortTask, AbortTaskSet, ClearTaskSet, TargetReset, ClearAca, UnitReset, Refused}
 
 -- ---- the search for a row
 
@@ -59,37 +59,45 @@ in-table code e n = omega (arith, place-within code codes)
 
 -- ---- the message of a row
 
+pub confirm-fields : (m : List ℕ) {tag path new offset last : ℕ} → new ≡ long m 8 → offset ≡ long m 12 → last ≡ byte m 16
+    → ConfirmStatus tag path new offset (eqb (last / 128) 1) ≡ confirmOf tag path m
+confirm-fields m n o l = rw (n, o, l)
+
 module _ (m : List ℕ) {row tag path : ℕ} (t : tag ≡ word m 2) (p : path ≡ long m 4) where
   pub command : {lun b : ℕ} {f : Flags} → row ≡ 0 → lun ≡ byte m 8 → f ≡ flagsOf b → b ≡ byte m 10 → Command tag path lun f ≡ fieldsOf row m
   unfolding fieldsOf
   command e el ef eb = rw (e, t, p, el, ef, eb)
 
-  pub abort-task : {tag2 a b : ℕ} → row ≡ 1 → tag2 ≡ joined a b → a ≡ byte m 8 → b ≡ byte m 9 → AbortTask tag path tag2 ≡ fieldsOf row m
+  pub confirm : {x : Message} → row ≡ 1 → x ≡ confirmOf tag path m → x ≡ fieldsOf row m
+  unfolding fieldsOf
+  confirm e ex = rw (e, ex, t, p)
+
+  pub abort-task : {tag2 a b : ℕ} → row ≡ 2 → tag2 ≡ joined a b → a ≡ byte m 8 → b ≡ byte m 9 → AbortTask tag path tag2 ≡ fieldsOf row m
   unfolding fieldsOf
   abort-task e e2 ea eb = rw (e, t, p, e2, ea, eb)
 
-  pub abort-set : {lun : ℕ} → row ≡ 2 → lun ≡ byte m 8 → AbortTaskSet tag path lun ≡ fieldsOf row m
+  pub abort-set : {lun : ℕ} → row ≡ 3 → lun ≡ byte m 8 → AbortTaskSet tag path lun ≡ fieldsOf row m
   unfolding fieldsOf
   abort-set e el = rw (e, t, p, el)
 
-  pub clear-set : {lun : ℕ} → row ≡ 3 → lun ≡ byte m 8 → ClearTaskSet tag path lun ≡ fieldsOf row m
+  pub clear-set : {lun : ℕ} → row ≡ 4 → lun ≡ byte m 8 → ClearTaskSet tag path lun ≡ fieldsOf row m
   unfolding fieldsOf
   clear-set e el = rw (e, t, p, el)
 
-  pub target-reset : row ≡ 4 → TargetReset tag path ≡ fieldsOf row m
+  pub target-reset : row ≡ 5 → TargetReset tag path ≡ fieldsOf row m
   unfolding fieldsOf
   target-reset e = rw (e, t, p)
 
-  pub clear-aca : {lun : ℕ} → row ≡ 5 → lun ≡ byte m 8 → ClearAca tag path lun ≡ fieldsOf row m
+  pub clear-aca : {lun : ℕ} → row ≡ 6 → lun ≡ byte m 8 → ClearAca tag path lun ≡ fieldsOf row m
   unfolding fieldsOf
   clear-aca e el = rw (e, t, p, el)
 
-  pub unit-reset : {lun : ℕ} → (row ≡ 0 → ⊥) → (row ≡ 1 → ⊥) → (row ≡ 2 → ⊥) → (row ≡ 3 → ⊥) → (row ≡ 4 → ⊥) → (row ≡ 5 → ⊥)
+  pub unit-reset : {lun : ℕ} → (row ≡ 0 → ⊥) → (row ≡ 1 → ⊥) → (row ≡ 2 → ⊥) → (row ≡ 3 → ⊥) → (row ≡ 4 → ⊥) → (row ≡ 5 → ⊥) → (row ≡ 6 → ⊥)
       → lun ≡ byte m 8 → UnitReset tag path lun ≡ fieldsOf row m
   unfolding fieldsOf
-  unit-reset a b c d e f el = rw (t, p, el) (simp (ne-eqb _ _ a, ne-eqb _ _ b, ne-eqb _ _ c, ne-eqb _ _ d, ne-eqb _ _ e, ne-eqb _ _ f))
+  unit-reset a b c d e f g el = rw (t, p, el) (simp (ne-eqb _ _ a, ne-eqb _ _ b, ne-eqb _ _ c, ne-eqb _ _ d, ne-eqb _ _ e, ne-eqb _ _ f, ne-eqb _ _ g))
 
-pub ruleset fields-cases = (command, abort-task, abort-set, clear-set, target-reset, clear-aca, unit-reset)
+pub ruleset fields-cases = (command, confirm, abort-task, abort-set, clear-set, target-reset, clear-aca, unit-reset)
 
 -- ---- what is read
 

@@ -1,4 +1,4 @@
--- The paper's numbers under their names: page 01's refusals, the codes of 003's tables 4, 6, 10 and 21, and those of SCSI-3 that page 01 names.
+-- The paper's numbers under their names: page 01's refusals, the codes of 003's tables 4, 6, 9, 10 and 21, and those of SCSI-3 that page 01 names.
 -- They stand here for every crate above; places, lengths and masks stand with the layouts (Messages.antt, Block.antt).
 use Prim.Native.Nat.{ℕ}
 use Rattle.wire.specs.declared.codes.Refusal.{Refusal}
@@ -68,6 +68,10 @@ notSound = refusal 13
 abbrev pub notWritable : Refusal
 notWritable = refusal 14
 
+-- CONFIRM STATUS: no task of that path and tag waits to be confirmed
+abbrev pub nothingToConfirm : Refusal
+nothingToConfirm = refusal 15
+
 -- the reply buffer that every call with a reply asks for
 abbrev pub replyRoom : ℕ
 replyRoom = 64
@@ -85,6 +89,9 @@ scsiCommand = 0x10
 
 abbrev pub scsiStatus : ℕ
 scsiStatus = 0x11
+
+abbrev pub confirmStatus : ℕ
+confirmStatus = 0x12
 
 abbrev pub abortTask : ℕ
 abortTask = 0x30
@@ -112,7 +119,7 @@ inquiry = 0x12
 abbrev pub requestSense : ℕ
 requestSense = 0x03
 
--- ---- 003, table 21: RETURN CODE of a SCSI RESPONSE
+-- ---- 003, table 21: RETURN CODE of a SCSI RESPONSE; table 9 has the first and the last for a SCSI STATUS
 
 abbrev pub returnCode : ℕ → ReturnCode
 returnCode b = record { 0 = b }

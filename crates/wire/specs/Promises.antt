@@ -6,19 +6,20 @@ use mathlib.Core.Bool.{false}
 use mathlib.Core.Logic.{_⊎_}
 use mathlib.Core.List.{List, _++_}
 use Rattle.wire.specs.Paper.{tooShort, notHandled}
-use Rattle.wire.specs.Paper.{scsiCommand, abortTask, abortTaskSet, clearTaskSet, targetReset, clearAca, logicalUnitReset}
+use Rattle.wire.specs.Paper.{scsiCommand, confirmStatus, abortTask, abortTaskSet, clearTaskSet, targetReset, clearAca, logicalUnitReset}
 use Rattle.wire.specs.Fields.{byte}
 use Rattle.wire.specs.Messages.{readOf, reservedSet}
 use Rattle.wire.specs.Block.{opcode, cutShort, noBlock, linked, blockOf}
 use Rattle.wire.specs.declared.codes.Refusal.{Refusal}
 use Rattle.wire.specs.declared.message.Message.{Message}
-use Rattle.wire.specs.declared.message.Message.the-variants.{Command, AbortTask, AbortTaskSet, ClearTaskSet, TargetReset, ClearAca, UnitReset, Refused}
+use Rattle.wire.specs.declared.message.Message.the-variants.{Command, ConfirmStatus, AbortTask, AbortTaskSet, ClearTaskSet, TargetReset, ClearAca, UnitReset, Refused}
 
 -- ---- what is read
 
 -- the S3P CODE of each kind of message; a refusal has none
 unfoldable pub s3pCode : Message → ℕ
 s3pCode (Command tag path lun flags) = scsiCommand
+s3pCode (ConfirmStatus tag path newPath offset complete) = confirmStatus
 s3pCode (AbortTask tag path tag2) = abortTask
 s3pCode (AbortTaskSet tag path lun) = abortTaskSet
 s3pCode (ClearTaskSet tag path lun) = clearTaskSet
@@ -37,9 +38,9 @@ ReadRefusals = (m : List ℕ) (n : Refusal) → Refused n ≡ readOf m → (n �
 
 -- ---- bytes past the specified length are not read
 
--- m has its specified length: it is not refused by 1, and a command holds its block whole
+-- m is a message with its specified length: it is not refused, and a command holds its block whole
 pub record Whole (m : List ℕ) : Type 0 where
-  pub fields : readOf m ≡ Refused tooShort → ⊥
+  pub fields : (n : Refusal) → readOf m ≡ Refused n → ⊥
   pub block : byte m 1 ≡ scsiCommand → cutShort m ≡ false
 
 -- bytes after it change no answer; what `read` answers wants no whole block, and what is asked of the block wants no more than the block

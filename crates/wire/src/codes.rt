@@ -12,6 +12,8 @@ pub const SCSI_COMMAND: u8 = 0x10;
 
 pub const SCSI_STATUS: u8 = 0x11;
 
+pub const CONFIRM_STATUS: u8 = 0x12;
+
 pub const ABORT_TASK: u8 = 0x30;
 
 pub const ABORT_TASK_SET: u8 = 0x31;
@@ -60,9 +62,11 @@ impl Refusal {
     pub const NOT_SOUND: Refusal = Refusal(13);
 
     pub const NOT_WRITABLE: Refusal = Refusal(14);
+
+    pub const NOTHING_TO_CONFIRM: Refusal = Refusal(15);
 }
 
-// The RETURN CODE of a SCSI RESPONSE (003, table 21).
+// The RETURN CODE of a SCSI RESPONSE (003, table 21); of a SCSI STATUS (table 9) the first and the last alone.
 pub struct ReturnCode(pub u8);
 
 impl ReturnCode {

@@ -1,7 +1,8 @@
 // The messages that are received, and the reader of them, which goes by the tables.
 ghost use mathlib.Core.Path.{_≡_};
+ghost use Prim.Native.Nat.{_≤_};
 ghost use Rattle.wire.specs.Fields;
-ghost use Rattle.wire.specs.Messages.{flagsOf, rowOf, fieldsOf, readOf, reservedSet};
+ghost use Rattle.wire.specs.Messages.{flagsOf, rowOf, confirmOf, fieldsOf, readOf, reservedSet};
 use crate::codes::Queue;
 use crate::codes::Refusal;
 use crate::codes::SMS_CODE;
@@ -30,6 +31,13 @@ pub enum Message {
         path: u32,
         lun: u8,
         flags: Flags,
+    },
+    ConfirmStatus {
+        tag: u16,
+        path: u32,
+        new_path: u32,
+        offset: u32,
+        complete: bool,
     },
     AbortTask {
         tag: u16,
@@ -96,14 +104,28 @@ fn tag_of(m: &[u8]) -> u16
     word(byte_at(m, 2), byte_at(m, 3))
 }
 
-// RETURN PATH ID, bytes 4 to 7 of every message.
-fn path_of(m: &[u8]) -> u32
-    ensures { λ r. ⌜ r ≡ Fields.long (now (m .entry)) 4 ⌝ }
+// The number in four bytes from a place on: RETURN PATH ID is at 4 in every message.
+fn long_at(m: &[u8], at: usize) -> u32
+    requires { ⌜ at ≤ 12 ⌝ }
+    ensures { λ r. ⌜ r ≡ Fields.long (now (m .entry)) at ⌝ }
 {
     long(
-        word(byte_at(m, 4), byte_at(m, 5)),
-        word(byte_at(m, 6), byte_at(m, 7)),
+        word(byte_at(m, at), byte_at(m, at + 1)),
+        word(byte_at(m, at + 2), byte_at(m, at + 3)),
     )
+}
+
+// CONFIRM STATUS, with the fields of its table: OLD RETURN PATH ID is the path.
+fn confirm_of(m: &[u8], tag: u16, path: u32) -> Message
+    ensures { λ r. ⌜ r ≡ confirmOf tag path (now (m .entry)) ⌝ }
+{
+    Message::ConfirmStatus {
+        tag,
+        path,
+        new_path: long_at(m, 8),
+        offset: long_at(m, 12),
+        complete: byte_at(m, 16) / 128 == 1,
+    }
 }
 
 // The message of a row, with the fields of its table.
@@ -111,7 +133,7 @@ fn fields_of(m: &[u8], row: usize) -> Message
     ensures { λ r. ⌜ r ≡ fieldsOf row (now (m .entry)) ⌝ }
 {
     let tag = tag_of(m);
-    let path = path_of(m);
+    let path = long_at(m, 4);
     let lun = byte_at(m, 8);
     match row {
         0 => Message::Command {
@@ -120,15 +142,16 @@ fn fields_of(m: &[u8], row: usize) -> Message
             lun,
             flags: flags_of(byte_at(m, 10)),
         },
-        1 => Message::AbortTask {
+        1 => confirm_of(m, tag, path),
+        2 => Message::AbortTask {
             tag,
             path,
             tag2: word(lun, byte_at(m, 9)),
         },
-        2 => Message::AbortTaskSet { tag, path, lun },
-        3 => Message::ClearTaskSet { tag, path, lun },
-        4 => Message::TargetReset { tag, path },
-        5 => Message::ClearAca { tag, path, lun },
+        3 => Message::AbortTaskSet { tag, path, lun },
+        4 => Message::ClearTaskSet { tag, path, lun },
+        5 => Message::TargetReset { tag, path },
+        6 => Message::ClearAca { tag, path, lun },
         _ => Message::UnitReset { tag, path, lun },
     }
 }

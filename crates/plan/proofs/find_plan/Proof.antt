@@ -19,11 +19,20 @@ enum-known-w-2 c = search needs
 plan-order-requires : tie.Need-plan-order-requires
 plan-order-requires c κs = search needs
 
+enum-known-w-3 : tie.Need-enum-known-w-3
+enum-known-w-3 c = search needs
+
+plan-confirm-requires : tie.Need-plan-confirm-requires
+plan-confirm-requires c κs = search needs
+
 returns : tie.Need-returns
 returns c = search plan-cases
 
 returns-2 : tie.Need-returns-2
 returns-2 c = search plan-cases
+
+returns-3 : tie.Need-returns-3
+returns-3 c = search plan-cases
 
 pub find-plan-spec : {M : Type 1} → statement M
 find-plan-spec =
@@ -34,5 +43,8 @@ find-plan-spec =
     rule-requires
     enum-known-w-2
     plan-order-requires
+    enum-known-w-3
+    plan-confirm-requires
     returns
-    returns-2)
+    returns-2
+    returns-3)

@@ -10,6 +10,9 @@ order-code-requires c κs = search needs
 ends-requires : tie.Need-ends-requires
 ends-requires c κs = search needs
 
+tell-requires : tie.Need-tell-requires
+tell-requires c κs = search needs
+
 returns : tie.Need-returns
 returns c = search order-cases
 
@@ -17,4 +20,4 @@ returns-2 : tie.Need-returns-2
 returns-2 c = search order-cases
 
 pub plan-order-spec : {M : Type 1} → statement M
-plan-order-spec = tie.close (tie.spec order-code-requires ends-requires returns returns-2)
+plan-order-spec = tie.close (tie.spec order-code-requires ends-requires returns tell-requires returns-2)

@@ -16,6 +16,9 @@ enum-known-r-2 c = search needs
 enum-known-r-3 : tie.Need-enum-known-r-3
 enum-known-r-3 c = search needs
 
+enum-known-r-4 : tie.Need-enum-known-r-4
+enum-known-r-4 c = search needs
+
 enum-told : tie.Need-enum-told
 enum-told c = search needs
 
@@ -34,6 +37,9 @@ returns-3 c = search ruled-cases
 returns-4 : tie.Need-returns-4
 returns-4 c = search ruled-cases
 
+returns-5 : tie.Need-returns-5
+returns-5 c = search ruled-cases
+
 pub rule-spec : {M : Type 1} → statement M
 rule-spec =
     tie.close
@@ -42,9 +48,11 @@ rule-spec =
     refuse-requires
     enum-known-r-2
     enum-known-r-3
+    enum-known-r-4
     enum-told
     kind-of-requires
     returns
     returns-2
     returns-3
-    returns-4)
+    returns-4
+    returns-5)

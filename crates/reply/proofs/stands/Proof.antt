@@ -28,11 +28,26 @@ slice-aggregate-starts-with-2 c = search needs
 starts-with-requires-2 : tie.Need-starts-with-requires-2
 starts-with-requires-2 c κs = search needs
 
+enum-known-r-3 : tie.Need-enum-known-r-3
+enum-known-r-3 c = search needs
+
+invalid-bytes-requires : tie.Need-invalid-bytes-requires
+invalid-bytes-requires c κs = search needs
+
+slice-aggregate-starts-with-3 : tie.Need-slice-aggregate-starts-with-3
+slice-aggregate-starts-with-3 c = search needs
+
+starts-with-requires-3 : tie.Need-starts-with-requires-3
+starts-with-requires-3 c κs = search needs
+
 returns : tie.Need-returns
 returns c = search stands-as
 
 returns-2 : tie.Need-returns-2
 returns-2 c = search stands-as
+
+returns-3 : tie.Need-returns-3
+returns-3 c = search stands-as
 
 pub stands-spec : {M : Type 1} → statement M
 stands-spec =
@@ -46,5 +61,10 @@ stands-spec =
     status-bytes-requires
     slice-aggregate-starts-with-2
     starts-with-requires-2
+    enum-known-r-3
+    invalid-bytes-requires
+    slice-aggregate-starts-with-3
+    starts-with-requires-3
     returns
-    returns-2)
+    returns-2
+    returns-3)

@@ -25,11 +25,17 @@ is-plain-status-requires c κs = search needs
 returns-2 : tie.Need-returns-2
 returns-2 c = search writable-cases
 
+enum-told : tie.Need-enum-told
+enum-told c = search needs
+
 returns-3 : tie.Need-returns-3
 returns-3 c = search writable-cases
 
 returns-4 : tie.Need-returns-4
 returns-4 c = search writable-cases
+
+returns-5 : tie.Need-returns-5
+returns-5 c = search writable-cases
 
 pub writable-spec : {M : Type 1} → statement M
 writable-spec =
@@ -42,5 +48,7 @@ writable-spec =
     is-none-requires
     is-plain-status-requires
     returns-2
+    enum-told
     returns-3
-    returns-4)
+    returns-4
+    returns-5)

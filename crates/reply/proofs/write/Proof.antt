@@ -37,6 +37,18 @@ slice-aggregate-copy-2 c = search needs
 copy-requires-2 : tie.Need-copy-requires-2
 copy-requires-2 c κs = search needs
 
+enum-known-r-3 : tie.Need-enum-known-r-3
+enum-known-r-3 c = search needs
+
+invalid-bytes-requires : tie.Need-invalid-bytes-requires
+invalid-bytes-requires c κs = search needs
+
+slice-aggregate-copy-3 : tie.Need-slice-aggregate-copy-3
+slice-aggregate-copy-3 c = search needs
+
+copy-requires-3 : tie.Need-copy-requires-3
+copy-requires-3 c κs = search needs
+
 same-length : tie.Need-same-length
 same-length c = search needs
 
@@ -48,6 +60,12 @@ same-length-2 c = search needs
 
 returns-4 : tie.Need-returns-4
 returns-4 c = search write-cases
+
+same-length-3 : tie.Need-same-length-3
+same-length-3 c = search needs
+
+returns-5 : tie.Need-returns-5
+returns-5 c = search write-cases
 
 pub write-spec : {M : Type 1} → statement M
 write-spec =
@@ -64,7 +82,13 @@ write-spec =
     status-bytes-requires
     slice-aggregate-copy-2
     copy-requires-2
+    enum-known-r-3
+    invalid-bytes-requires
+    slice-aggregate-copy-3
+    copy-requires-3
     same-length
     returns-3
     same-length-2
-    returns-4)
+    returns-4
+    same-length-3
+    returns-5)

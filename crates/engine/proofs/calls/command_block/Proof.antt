@@ -46,6 +46,24 @@ enum-told-7 c = search needs
 slice-aggregate-result-6 : tie.Need-slice-aggregate-result-6
 slice-aggregate-result-6 c = search needs
 
+enum-told-8 : tie.Need-enum-told-8
+enum-told-8 c = search needs
+
+slice-aggregate-result-7 : tie.Need-slice-aggregate-result-7
+slice-aggregate-result-7 c = search needs
+
+enum-told-9 : tie.Need-enum-told-9
+enum-told-9 c = search needs
+
+slice-aggregate-result-8 : tie.Need-slice-aggregate-result-8
+slice-aggregate-result-8 c = search needs
+
+enum-told-10 : tie.Need-enum-told-10
+enum-told-10 c = search needs
+
+slice-aggregate-result-9 : tie.Need-slice-aggregate-result-9
+slice-aggregate-result-9 c = search needs
+
 returns : tie.Need-returns
 unfolding handedOver
 returns c = rw (c .before .enum-told .given .1) (c .command-block .ensures)
@@ -74,6 +92,18 @@ returns-7 : tie.Need-returns-7
 unfolding handedOver
 returns-7 c = rw (c .before .enum-told7 .given .1)
 
+returns-8 : tie.Need-returns-8
+unfolding handedOver
+returns-8 c = rw (c .before .enum-told8 .given .1)
+
+returns-9 : tie.Need-returns-9
+unfolding handedOver
+returns-9 c = rw (c .before .enum-told9 .given .1)
+
+returns-10 : tie.Need-returns-10
+unfolding handedOver
+returns-10 c = rw (c .before .enum-told10 .given .1)
+
 pub command-block-spec : {M : Type 1} → statement M
 command-block-spec =
     tie.close
@@ -92,10 +122,19 @@ command-block-spec =
     slice-aggregate-result-5
     enum-told-7
     slice-aggregate-result-6
+    enum-told-8
+    slice-aggregate-result-7
+    enum-told-9
+    slice-aggregate-result-8
+    enum-told-10
+    slice-aggregate-result-9
     returns
     returns-2
     returns-3
     returns-4
     returns-5
     returns-6
-    returns-7)
+    returns-7
+    returns-8
+    returns-9
+    returns-10)

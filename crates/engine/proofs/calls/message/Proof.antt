@@ -1,6 +1,10 @@
 -- `calls::message` meets its contract. Assumes nothing.
+use mathlib.Core.Path.{_≡_, sym, _∙_}
+use mathlib.Core.Logic.{⊎-elim}
 use borrow.Author.Needs.{needs}
-use Rattle.engine.proofs.Calling.{answer-ways}
+use denote.Ref.{now}
+use Rattle.engine.specs.Calls.{acted, carriedOut}
+use Rattle.engine.proofs.Calling.{planHeard, unread, read-by, carries-out, answers, carries}
 use Rattle.engine.proofs.calls.message.Statement.{statement}
 use Rattle.engine.proofs.calls.message.Tie as tie
 
@@ -10,35 +14,101 @@ sound-requires c κs = search needs
 heard-requires : tie.Need-heard-requires
 heard-requires c κs = search needs
 
-enum-known-n : tie.Need-enum-known-n
-enum-known-n c = search needs
+enum-known-asked : tie.Need-enum-known-asked
+enum-known-asked c = search needs
 
 refuse-requires : tie.Need-refuse-requires
 refuse-requires c κs = search needs
 
-enum-known-path : tie.Need-enum-known-path
-enum-known-path c = search needs
+enum-known-asked-2 : tie.Need-enum-known-asked-2
+enum-known-asked-2 c = search needs
+
+path-of-requires : tie.Need-path-of-requires
+path-of-requires c κs = search needs
+
+tag-asked-requires : tie.Need-tag-asked-requires
+tag-asked-requires c κs = search needs
+
+unit-asked-requires : tie.Need-unit-asked-requires
+unit-asked-requires c κs = search needs
+
+clears-set-requires : tie.Need-clears-set-requires
+clears-set-requires c κs = search needs
+
+look-requires : tie.Need-look-requires
+look-requires c κs = search needs
 
 plan-for-requires : tie.Need-plan-for-requires
 plan-for-requires c κs = search needs
 
+change-paths-requires : tie.Need-change-paths-requires
+change-paths-requires c κs = search needs
+
+change-units-requires : tie.Need-change-units-requires
+change-units-requires c κs = search needs
+
+enum-told : tie.Need-enum-told
+enum-told c = search needs
+
+enum-known-deed : tie.Need-enum-known-deed
+enum-known-deed c = search needs
+
+accept-requires : tie.Need-accept-requires
+accept-requires c κs = search needs
+
+enum-known-deed-2 : tie.Need-enum-known-deed-2
+enum-known-deed-2 c = search needs
+
+end-requires : tie.Need-end-requires
+end-requires c κs = search needs
+
+enum-known-deed-3 : tie.Need-enum-known-deed-3
+enum-known-deed-3 c = search needs
+
+restart-requires : tie.Need-restart-requires
+restart-requires c κs = search needs
+
 reply-to-requires : tie.Need-reply-to-requires
 reply-to-requires c κs = search needs
 
-carry-out-requires : tie.Need-carry-out-requires
-carry-out-requires c κs = search needs
+sender-of-requires : tie.Need-sender-of-requires
+sender-of-requires c κs = search needs
 
 reply-path-requires : tie.Need-reply-path-requires
 reply-path-requires c κs = search needs
 
-returns : tie.Need-returns
-returns c = search answer-ways
-
 same-length : tie.Need-same-length
 same-length c = search needs
 
-returns-2 : tie.Need-returns-2
-returns-2 c = search answer-ways
+returns : tie.Need-returns
+unfolding acted
+returns c =
+    -- h: where the ways of the deed meet; g: where the ways to the plan meet
+    let h = c .before .before .before .before .before .before in
+    let g = h .before .before .before .before .before in
+    let s = g .before .before in
+    let args = s .before .before .before .args in
+    let t = args .t in
+    let pl = g .match .plan in
+    let asked = g .match .asked in
+    let p : (asked ≡ g .before .heard .result) × (pl ≡ planHeard t (now (args .m)) asked) =
+    ⊎-elim
+    (λ w. (w .4 ∙ sym (w .1 .given .1), unread t _ (w .4) (w .5 ∙ w .3 .ensures)))
+    (λ w. (
+      w .9 ∙ sym (w .1 .given .1),
+      read-by t _ (w .9) (w .3 .ensures) (w .4 .ensures) (w .5 .ensures) (w .6 .ensures) (w .7 .ensures) (w .10 ∙ w .8 .ensures),
+    ))
+    (g .match .came) in
+    let e = h .before .before .before .change-paths .ensures in
+    let f = h .before .change-units .ensures in
+    let u : h .match2 .t ≡ carriedOut t pl =
+    ⊎-elim
+    (λ w. carries-out t pl e f (w .1 .given .1) (w .2))
+    (⊎-elim
+    (λ w. carries-out t pl e f (w .1 .given .1) (w .4 ∙ w .3 .ensures))
+    (⊎-elim (λ w. carries-out t pl e f (w .1 .given .1) (w .4 ∙ w .3 .ensures)) (λ w. carries-out t pl e f (w .1 .given .1) (w .4 ∙ w .3 .ensures))))
+    (h .match2 .came) in
+    answers (carries t _ _ (s .sound .ensures) (p .0 ∙ g .before .heard .ensures) (p .1) u (c .before .sender-of .ensures) (c .reply-path .ensures)) (c .before .before .before .before .reply-to .ensures)
 
 pub message-spec : {M : Type 1} → statement M
 message-spec =
@@ -46,13 +116,26 @@ message-spec =
     (tie.spec
     sound-requires
     heard-requires
-    enum-known-n
+    enum-known-asked
     refuse-requires
-    enum-known-path
+    enum-known-asked-2
+    path-of-requires
+    tag-asked-requires
+    unit-asked-requires
+    clears-set-requires
+    look-requires
     plan-for-requires
+    change-paths-requires
+    change-units-requires
+    enum-told
+    enum-known-deed
+    accept-requires
+    enum-known-deed-2
+    end-requires
+    enum-known-deed-3
+    restart-requires
     reply-to-requires
-    carry-out-requires
+    sender-of-requires
     reply-path-requires
-    returns
     same-length
-    returns-2)
+    returns)

@@ -10,9 +10,6 @@ new-requires c κs = search needs
 bad-list-requires : tie.Need-bad-list-requires
 bad-list-requires c κs = search needs
 
-refuse-requires : tie.Need-refuse-requires
-refuse-requires c κs = search needs
-
 returns : tie.Need-returns
 returns c = search setup-ways
 
@@ -20,4 +17,4 @@ returns-2 : tie.Need-returns-2
 returns-2 c = search setup-ways
 
 pub setup-spec : {M : Type 1} → statement M
-setup-spec = tie.close (tie.spec new-requires bad-list-requires refuse-requires returns returns-2)
+setup-spec = tie.close (tie.spec new-requires bad-list-requires returns returns-2)

@@ -15,15 +15,15 @@ returns : tie.Need-returns
 unfolding fieldRules
 returns c = search first-cases depth 20
 
-respond-requires-2 : tie.Need-respond-requires-2
-respond-requires-2 c κs = search needs
+contradicts-requires : tie.Need-contradicts-requires
+contradicts-requires c κs = search needs
 
 returns-2 : tie.Need-returns-2
 unfolding fieldRules
 returns-2 c = search first-cases depth 20
 
-respond-requires-3 : tie.Need-respond-requires-3
-respond-requires-3 c κs = search needs
+respond-requires-2 : tie.Need-respond-requires-2
+respond-requires-2 c κs = search needs
 
 returns-3 : tie.Need-returns-3
 unfolding fieldRules
@@ -43,9 +43,9 @@ by-fields-spec =
     reserved-set-requires
     respond-requires
     returns
-    respond-requires-2
+    contradicts-requires
     returns-2
-    respond-requires-3
+    respond-requires-2
     returns-3
     by-unit-requires
     returns-4)

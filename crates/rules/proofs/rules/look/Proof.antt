@@ -11,14 +11,17 @@ path-at-requires c κs = search needs
 unit-at-requires : tie.Need-unit-at-requires
 unit-at-requires c κs = search needs
 
+pick-requires : tie.Need-pick-requires
+pick-requires c κs = search needs
+
+pick-requires-2 : tie.Need-pick-requires-2
+pick-requires-2 c κs = search needs
+
 losers-requires : tie.Need-losers-requires
 losers-requires c κs = search needs
 
 has-room-requires : tie.Need-has-room-requires
 has-room-requires c κs = search needs
-
-any-requires : tie.Need-any-requires
-any-requires c κs = search needs
 
 is-attached-requires : tie.Need-is-attached-requires
 is-attached-requires c κs = search needs
@@ -29,11 +32,8 @@ has-aca-requires c κs = search needs
 owned-by-requires : tie.Need-owned-by-requires
 owned-by-requires c κs = search needs
 
-any-requires-2 : tie.Need-any-requires-2
-any-requires-2 c κs = search needs
-
 returns : tie.Need-returns
-returns c = ⊎-elim (λ w. search look-cases) (λ w. search look-cases) (c .before .before .before .before .before .before .if1 .came)
+returns c = ⊎-elim (λ w. search look-cases) (λ w. search look-cases) (c .before .before .before .before .if1 .came)
 
 pub look-spec : {M : Type 1} → statement M
 look-spec =
@@ -41,11 +41,11 @@ look-spec =
     (tie.spec
     path-at-requires
     unit-at-requires
+    pick-requires
+    pick-requires-2
     losers-requires
     has-room-requires
-    any-requires
     is-attached-requires
     has-aca-requires
     owned-by-requires
-    any-requires-2
     returns)

@@ -1,18 +1,59 @@
--- `Table::finish` meets its contract, for a task that failed and one that did not. Assumes nothing.
+-- `Table::finish` meets its contract: no such record, a dead one, a task to be confirmed, one that ends. Assumes nothing.
 use mathlib.Core.Logic.{⊎-elim}
 use borrow.Author.Needs.{needs}
 use Rattle.table.proofs.Changing.{finish-ways}
 use Rattle.table.proofs.Table.finish.Statement.{statement}
 use Rattle.table.proofs.Table.finish.Tie as tie
 
+returns : tie.Need-returns
+returns c = search finish-ways
+
+is-live-requires : tie.Need-is-live-requires
+is-live-requires c κs = search needs
+
+returns-2 : tie.Need-returns-2
+returns-2 c = search finish-ways
+
+mul-a : tie.Need-mul-a
+mul-a c = search needs
+
+element-copy-out-a : tie.Need-element-copy-out-a
+element-copy-out-a c = search needs
+
 claim-requires : tie.Need-claim-requires
 claim-requires c κs = search needs
+
+mul-b : tie.Need-mul-b
+mul-b c = search needs
+
+element-set-from-b : tie.Need-element-set-from-b
+element-set-from-b c = search needs
+
+returns-3 : tie.Need-returns-3
+returns-3 c = ⊎-elim (λ w. search (needs, finish-ways)) (λ w. search (needs, finish-ways)) (c .before .if3 .came)
+
+running-as-requires : tie.Need-running-as-requires
+running-as-requires c κs = search needs
 
 end-requires : tie.Need-end-requires
 end-requires c κs = search needs
 
-returns : tie.Need-returns
-returns c = ⊎-elim (λ w. search (needs, finish-ways)) (λ w. search (needs, finish-ways)) (c .before .if1 .came)
+returns-4 : tie.Need-returns-4
+returns-4 c = ⊎-elim (λ w. search (needs, finish-ways)) (λ w. search (needs, finish-ways)) (c .before .before .before .if3 .came)
 
 pub finish-spec : {M : Type 1} → statement M
-finish-spec = tie.close (tie.spec claim-requires end-requires returns)
+finish-spec =
+    tie.close
+    (tie.spec
+    returns
+    is-live-requires
+    returns-2
+    mul-a
+    element-copy-out-a
+    claim-requires
+    mul-b
+    element-set-from-b
+    returns-3
+    running-as-requires
+    end-requires
+    returns-4)

@@ -1,17 +1,17 @@
 -- `Table::start` meets its contract: no such record, a dead one, a live one. Assumes nothing.
 use borrow.Author.Needs.{needs}
-use Rattle.table.proofs.Changing.{start-ways}
+use Rattle.table.proofs.Changing.{alter-ways}
 use Rattle.table.proofs.Table.start.Statement.{statement}
 use Rattle.table.proofs.Table.start.Tie as tie
 
 returns : tie.Need-returns
-returns c = search start-ways
+returns c = search alter-ways
 
 is-live-requires : tie.Need-is-live-requires
 is-live-requires c κs = search needs
 
 returns-2 : tie.Need-returns-2
-returns-2 c = search start-ways
+returns-2 c = search alter-ways
 
 mul-a : tie.Need-mul-a
 mul-a c = search needs
@@ -26,7 +26,7 @@ element-set-from-b : tie.Need-element-set-from-b
 element-set-from-b c = search needs
 
 returns-3 : tie.Need-returns-3
-returns-3 c = search start-ways
+returns-3 c = search alter-ways
 
 pub start-spec : {M : Type 1} → statement M
 start-spec =

@@ -13,12 +13,12 @@ returns c = search (needs, unmapped, past-end)
 mul-result : tie.Need-mul-result
 mul-result c = search needs
 
-element-copy-out-result : tie.Need-element-copy-out-result
-element-copy-out-result c = search needs
+array-copy-out-result : tie.Need-array-copy-out-result
+array-copy-out-result c = search needs
 
 returns-2 : tie.Need-returns-2
 returns-2 c = search needs
 
 pub unit-at-spec : {M : Type 1} → statement M
 unit-at-spec =
-    tie.close (tie.spec no-unit-requires returns mul-result element-copy-out-result returns-2)
+    tie.close (tie.spec no-unit-requires returns mul-result array-copy-out-result returns-2)

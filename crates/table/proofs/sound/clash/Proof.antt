@@ -4,14 +4,14 @@ use Rattle.task.proofs.Ways.{ways}
 use Rattle.table.proofs.sound.clash.Statement.{statement}
 use Rattle.table.proofs.sound.clash.Tie as tie
 
+alike-requires : tie.Need-alike-requires
+alike-requires c κs = search needs
+
 is-live-requires : tie.Need-is-live-requires
 is-live-requires c κs = search needs
 
 is-live-requires-2 : tie.Need-is-live-requires-2
 is-live-requires-2 c κs = search needs
-
-alike-requires : tie.Need-alike-requires
-alike-requires c κs = search needs
 
 returns : tie.Need-returns
 returns c = search ways
@@ -25,4 +25,4 @@ returns-3 c = search ways
 pub clash-spec : {M : Type 1} → statement M
 clash-spec =
     tie.close
-    (tie.spec is-live-requires is-live-requires-2 alike-requires returns returns-2 returns-3)
+    (tie.spec alike-requires returns is-live-requires is-live-requires-2 returns-2 returns-3)

@@ -12,7 +12,7 @@ is-running-requires-2 : tie.Need-is-running-requires-2
 is-running-requires-2 c κs = search needs
 
 returns : tie.Need-returns
-returns c = search needs
+returns c = search ways
 
 is-aca-requires : tie.Need-is-aca-requires
 is-aca-requires c κs = search needs

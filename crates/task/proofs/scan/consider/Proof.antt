@@ -19,6 +19,9 @@ returns-2 c = search chosen
 goes-before-requires : tie.Need-goes-before-requires
 goes-before-requires c κs = search needs
 
+taken-at-requires-2 : tie.Need-taken-at-requires-2
+taken-at-requires-2 c κs = search needs
+
 returns-3 : tie.Need-returns-3
 returns-3 c = search chosen
 
@@ -34,5 +37,6 @@ consider-spec =
     taken-at-requires
     returns-2
     goes-before-requires
+    taken-at-requires-2
     returns-3
     returns-4)

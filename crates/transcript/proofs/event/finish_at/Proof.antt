@@ -1,6 +1,7 @@
 -- `transcript::event::finish_at` meets its contract. Assumes nothing.
 use Rattle.transcript.specs.Events.{finishAt}
 use Rattle.transcript.proofs.Numbers.{given-cases}
+use Rattle.transcript.proofs.Reading.{finish-cases}
 use borrow.Author.Needs.{needs}
 use Rattle.transcript.proofs.event.finish_at.Statement.{statement}
 use Rattle.transcript.proofs.event.finish_at.Tie as tie
@@ -70,21 +71,32 @@ returns-5 : tie.Need-returns-5
 unfolding finishAt
 returns-5 c = search given-cases
 
-cast-t19 : tie.Need-cast-t19
-cast-t19 c = search needs
+number-at-requires-2 : tie.Need-number-at-requires-2
+number-at-requires-2 c κs = search needs
 
-cast-t21 : tie.Need-cast-t21
-cast-t21 c = search needs
+enum-known-transferred : tie.Need-enum-known-transferred
+enum-known-transferred c = search needs
 
-cast-t23 : tie.Need-cast-t23
-cast-t23 c = search needs
-
-cast-t25 : tie.Need-cast-t25
-cast-t25 c = search needs
+enum-told-6 : tie.Need-enum-told-6
+enum-told-6 c = search needs
 
 returns-6 : tie.Need-returns-6
-unfolding finishAt
-returns-6 c = search given-cases
+returns-6 c = search finish-cases
+
+cast-t22 : tie.Need-cast-t22
+cast-t22 c = search needs
+
+cast-t24 : tie.Need-cast-t24
+cast-t24 c = search needs
+
+cast-t26 : tie.Need-cast-t26
+cast-t26 c = search needs
+
+cast-t28 : tie.Need-cast-t28
+cast-t28 c = search needs
+
+returns-7 : tie.Need-returns-7
+returns-7 c = search finish-cases
 
 pub finish-at-spec : {M : Type 1} → statement M
 finish-at-spec =
@@ -110,8 +122,12 @@ finish-at-spec =
     enum-known-qualifier
     enum-told-5
     returns-5
-    cast-t19
-    cast-t21
-    cast-t23
-    cast-t25
-    returns-6)
+    number-at-requires-2
+    enum-known-transferred
+    enum-told-6
+    returns-6
+    cast-t22
+    cast-t24
+    cast-t26
+    cast-t28
+    returns-7)

@@ -41,32 +41,62 @@ push-sense-requires c κs = search needs
 enum-known-a-4 : tie.Need-enum-known-a-4
 enum-known-a-4 c = search needs
 
-slice-aggregate-push-number-2 : tie.Need-slice-aggregate-push-number-2
-slice-aggregate-push-number-2 c = search needs
-
-push-number-requires-2 : tie.Need-push-number-requires-2
-push-number-requires-2 c κs = search needs
-
-enum-told-2 : tie.Need-enum-told-2
-enum-told-2 c = search needs
-
 slice-aggregate-push-word : tie.Need-slice-aggregate-push-word
 slice-aggregate-push-word c = search needs
 
 push-word-requires : tie.Need-push-word-requires
 push-word-requires c κs = search needs
 
+push-tag-requires : tie.Need-push-tag-requires
+push-tag-requires c κs = search needs
+
 enum-known-a-5 : tie.Need-enum-known-a-5
 enum-known-a-5 c = search needs
+
+slice-aggregate-push-number-2 : tie.Need-slice-aggregate-push-number-2
+slice-aggregate-push-number-2 c = search needs
+
+push-number-requires-2 : tie.Need-push-number-requires-2
+push-number-requires-2 c κs = search needs
+
+enum-known-a-6 : tie.Need-enum-known-a-6
+enum-known-a-6 c = search needs
 
 slice-aggregate-push-number-3 : tie.Need-slice-aggregate-push-number-3
 slice-aggregate-push-number-3 c = search needs
 
+push-number-requires-3 : tie.Need-push-number-requires-3
+push-number-requires-3 c κs = search needs
+
+enum-known-a-7 : tie.Need-enum-known-a-7
+enum-known-a-7 c = search needs
+
+slice-aggregate-push-number-4 : tie.Need-slice-aggregate-push-number-4
+slice-aggregate-push-number-4 c = search needs
+
+push-number-requires-4 : tie.Need-push-number-requires-4
+push-number-requires-4 c κs = search needs
+
+enum-told-2 : tie.Need-enum-told-2
+enum-told-2 c = search needs
+
+slice-aggregate-push-word-2 : tie.Need-slice-aggregate-push-word-2
+slice-aggregate-push-word-2 c = search needs
+
+push-word-requires-2 : tie.Need-push-word-requires-2
+push-word-requires-2 c κs = search needs
+
+enum-known-a-8 : tie.Need-enum-known-a-8
+enum-known-a-8 c = search needs
+
+slice-aggregate-push-number-5 : tie.Need-slice-aggregate-push-number-5
+slice-aggregate-push-number-5 c = search needs
+
 cast-push-number : tie.Need-cast-push-number
 cast-push-number c = search needs
 
-push-number-requires-3 : tie.Need-push-number-requires-3
-push-number-requires-3 c κs = search needs
+push-number-requires-5 : tie.Need-push-number-requires-5
+push-number-requires-5 c κs = search needs
 
 returns : tie.Need-returns
 unfolding answerText pushAll
@@ -96,6 +126,18 @@ returns-7 : tie.Need-returns-7
 unfolding answerText
 returns-7 c = search answer-cases
 
+returns-8 : tie.Need-returns-8
+unfolding answerText
+returns-8 c = search answer-cases
+
+returns-9 : tie.Need-returns-9
+unfolding answerText
+returns-9 c = search answer-cases
+
+returns-10 : tie.Need-returns-10
+unfolding answerText
+returns-10 c = search answer-cases
+
 pub push-answer-spec : {M : Type 1} → statement M
 push-answer-spec =
     tie.close
@@ -112,19 +154,32 @@ push-answer-spec =
     push-reply-requires-2
     push-sense-requires
     enum-known-a-4
-    slice-aggregate-push-number-2
-    push-number-requires-2
-    enum-told-2
     slice-aggregate-push-word
     push-word-requires
+    push-tag-requires
     enum-known-a-5
+    slice-aggregate-push-number-2
+    push-number-requires-2
+    enum-known-a-6
     slice-aggregate-push-number-3
-    cast-push-number
     push-number-requires-3
+    enum-known-a-7
+    slice-aggregate-push-number-4
+    push-number-requires-4
+    enum-told-2
+    slice-aggregate-push-word-2
+    push-word-requires-2
+    enum-known-a-8
+    slice-aggregate-push-number-5
+    cast-push-number
+    push-number-requires-5
     returns
     returns-2
     returns-3
     returns-4
     returns-5
     returns-6
-    returns-7)
+    returns-7
+    returns-8
+    returns-9
+    returns-10)

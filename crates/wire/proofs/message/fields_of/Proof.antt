@@ -7,8 +7,8 @@ use Rattle.wire.proofs.message.fields_of.Tie as tie
 tag-of-requires : tie.Need-tag-of-requires
 tag-of-requires c κs = search needs
 
-path-of-requires : tie.Need-path-of-requires
-path-of-requires c κs = search needs
+long-at-requires : tie.Need-long-at-requires
+long-at-requires c κs = search needs
 
 byte-at-requires : tie.Need-byte-at-requires
 byte-at-requires c κs = search needs
@@ -18,6 +18,9 @@ byte-at-requires-2 c κs = search needs
 
 flags-of-requires : tie.Need-flags-of-requires
 flags-of-requires c κs = search needs
+
+confirm-of-requires : tie.Need-confirm-of-requires
+confirm-of-requires c κs = search needs
 
 byte-at-requires-3 : tie.Need-byte-at-requires-3
 byte-at-requires-3 c κs = search needs
@@ -46,15 +49,19 @@ returns-6 c = search fields-cases
 returns-7 : tie.Need-returns-7
 returns-7 c = search fields-cases
 
+returns-8 : tie.Need-returns-8
+returns-8 c = search fields-cases
+
 pub fields-of-spec : {M : Type 1} → statement M
 fields-of-spec =
     tie.close
     (tie.spec
     tag-of-requires
-    path-of-requires
+    long-at-requires
     byte-at-requires
     byte-at-requires-2
     flags-of-requires
+    confirm-of-requires
     byte-at-requires-3
     word-requires
     returns
@@ -63,4 +70,5 @@ fields-of-spec =
     returns-4
     returns-5
     returns-6
-    returns-7)
+    returns-7
+    returns-8)

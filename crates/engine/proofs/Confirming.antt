@@ -1,0 +1,116 @@
+-- What becomes of a task that waits to be confirmed: `confirmed` ends it, `restarted` has it wait again, and every other record stays. Assumes nothing.
+use Prim.Native.Nat.{ℕ, _<_, _≤_}
+use mathlib.Core.Path.{_≡_, refl, sym, ap, subst, _∙_}
+use mathlib.Core.Bool.{Bool, true}
+use mathlib.Core.List.{List}
+use mathlib.Core.Option.{Option, none, some}
+use lib.ListN.{length}
+use borrow.Author.Tests.{eq-eqb, eqb-true}
+use Rattle.wire.specs.Messages.{readOf}
+use Rattle.task.specs.Tasks.{restarts}
+use Rattle.task.specs.Selections.{picks, named, numberedAs}
+use Rattle.task.specs.declared.Task.{Task}
+use Rattle.task.specs.declared.scan.Pick.{Pick}
+use Rattle.task.specs.declared.select.Selection.{Selection}
+use Rattle.task.proofs.Ways.{cond-ind, both}
+use Rattle.task.proofs.Selecting.{meets, picks-named}
+use Rattle.table.specs.Tables.{pathOf, pickOf, endedBy, restarted}
+use Rattle.table.specs.View.{at}
+use Rattle.table.specs.Promises.{Good}
+use Rattle.table.specs.declared.Table.{Table}
+use Rattle.table.proofs.Views.{live-at, spared, at-ended, altered-at, altered-other, pick-at}
+use Rattle.rules.specs.Rules.{seenOf}
+use Rattle.plan.specs.Plans.{askedOf, isAwaited}
+use Rattle.plan.specs.declared.What.the-variants.{Confirm}
+use Rattle.plan.specs.declared.Asked.the-variants.{By}
+use Rattle.plan.specs.declared.Plan.{Plan}
+use Rattle.plan.specs.declared.Answer.{Answer}
+use Rattle.plan.specs.declared.Answer.the-variants as answer
+use Rattle.engine.specs.Calls.{planAt, acted, carriedOut, messageOf, replied}
+use Rattle.engine.specs.Promises.{Awaited, ConfirmsItsOwn}
+use Rattle.engine.specs.declared.Outcome.{Outcome}
+use Rattle.engine.proofs.Outcomes.{each-message, each-confirm, left-by}
+
+-- every other record than i is in u as in t
+abbrev Others : Table → Table → ℕ → Type 0
+Others t u i = (j : ℕ) → j < 64 → (j ≡ i → ⊥) → at u j ≡ at t j
+
+module _ (t : Table) (path tag offset : ℕ) where
+  -- what an answer to a confirmation means for the table after it
+  abbrev Meant : Answer → Table → Type 0
+  Meant answer.Ready u = Unit {0}
+  Meant (answer.Accepted n) u = Unit {0}
+  Meant (answer.Response tag code) u = Unit {0}
+  Meant (answer.Status tag status sense) u = Unit {0}
+  Meant (answer.Invalid tag) u = Unit {0}
+  Meant (answer.Started offset arrival) u = Unit {0}
+  Meant (answer.Confirmed n) u = (i : ℕ) × (a : Task) × Awaited t path tag n i a × (at u i ≡ none) × Others t u i
+  Meant (answer.Restarted n) u =
+      (i : ℕ) × (a : Task) × Awaited t path tag n i a × (offset ≤ a .transferred) × (at u i ≡ some (restarts offset a)) × Others t u i
+  Meant answer.Reset u = Unit {0}
+  Meant (answer.Refused n) u = Unit {0}
+
+  abbrev p : ℕ
+  p = pathOf t path
+
+  -- the sender's task with the tag
+  abbrev own : Pick
+  own = pickOf t (named p tag)
+
+  module _ (g : Good t) where
+    awaited : isAwaited own ≡ true → Awaited t path tag (own .task .arrival) (own .at) (own .task)
+    awaited e =
+        let b = both (own .found) _ e in
+        let f = pick-at t (named p tag) (g .shaped) (b .0) in
+        let n = both _ _ (sym (picks-named (own .task) p tag) ∙ f .picked) in
+        record { below = f .below; here = f .here; sender = eqb-true _ _ (n .0); named = eqb-true _ _ (n .1); number = refl; waits = b .1 }
+
+    module _ {i : ℕ} {a : Task} (w : Awaited t path tag (a .arrival) i a) where
+      abbrev s : Selection
+      s = numberedAs (a .arrival) p tag
+
+      ends : at (endedBy t s) i ≡ none
+      unfolding picks
+      ends = at-ended t s i (g .shaped) (w .below) ∙ rw (w .here, eq-eqb (a .arrival) (a .arrival) refl, eq-eqb _ _ (w .sender), eq-eqb _ _ (w .named))
+
+      ends-no-other : Others t (endedBy t s) i
+      ends-no-other j l n = at-ended t s j (g .shaped) l ∙ stays (at t j) refl
+        where
+          stays : (x : Option Task) → at t j ≡ x → spared s x ≡ x
+          stays none e = refl
+          stays (some b) e = cond-ind (λ (x : Option Task). x ≡ some b) (picks s b)
+              (λ q. absurd (n (g .sound .one-arrival j i b a l (w .below) e (w .here) (eqb-true _ _ (meets s b q .number))))) (λ _. refl)
+
+      goes-again : at (restarted t i offset) i ≡ some (restarts offset a)
+      goes-again = altered-at t i _ (g .shaped) (w .below) (w .here) ∙ ap (λ (x : Task). some (restarts offset x)) (live-at t i (w .here) .1)
+
+    module _ (m : List ℕ) (complete : Bool) where
+      plan-meant : Meant (planAt t m p tag (Confirm offset complete) .answer) (carriedOut t (planAt t m p tag (Confirm offset complete)))
+      unfolding planAt seenOf carriedOut acted
+      plan-meant =
+          each-confirm (λ (pl : Plan). Meant (pl .answer) (carriedOut t pl)) own p tag m offset complete tt tt
+          (λ e. let w = awaited e in (own .at, own .task, w, ends w, ends-no-other w))
+          (λ e l. let w = awaited e in (own .at, own .task, w, l, goes-again w, λ j _. altered-other t (own .at) _ j))
+
+      -- the outcome of a call that is asked for it
+      meant : askedOf (readOf m) ≡ By path tag (Confirm offset complete) → (n : ℕ) → Meant (messageOf t m n .answer) (messageOf t m n .table)
+      meant e =
+          each-message (λ (o : Outcome). Meant (o .answer) (o .table)) t (λ _. tt) m
+          (λ path2 tag2 w f _.
+          let same : By path2 tag2 w ≡ By path tag (Confirm offset complete) = sym f ∙ e in
+          let x : path2 ≡ path = cc in
+          let y : tag2 ≡ tag = cc in
+          let z : w ≡ Confirm offset complete = cc in
+          rw (x, y, z) plan-meant)
+
+      told : {o : Outcome} {a : Answer} (n : ℕ) → askedOf (readOf m) ≡ By path tag (Confirm offset complete) → o ≡ messageOf t m n → o .answer ≡ a → Meant a (o .table)
+      told {o = o} n e x h = subst (λ (a : Answer). Meant a (o .table)) h (subst (λ (q : Outcome). Meant (q .answer) (q .table)) (sym x) (meant e n))
+
+pub confirms-its-own : ConfirmsItsOwn
+unfolding replied
+confirms-its-own = record {
+  confirmed = λ t m buf o left path tag offset arrival complete g x e h.
+      let r = told t path tag offset g m complete (length buf) e (x .outcome) h in (r .0, r .1, r .2, r .3, r .4, left-by buf x h);
+  restarted = λ t m buf o left path tag offset arrival complete g x e h.
+      let r = told t path tag offset g m complete (length buf) e (x .outcome) h in (r .0, r .1, r .2, r .3, r .4, r .5, left-by buf x h);
+}

@@ -1,0 +1,61 @@
+-- What an event comes to for one command, and for its entry in the ledger: it stays, goes on in another way, or is ended. Assumes nothing.
+use Prim.Native.Nat.{ℕ}
+use mathlib.Core.Path.{_≡_, refl}
+use mathlib.Core.Bool.{true, _||_}
+use mathlib.Core.List.{List, [], _∷_, _++_}
+use mathlib.Core.Option.{Option, none, some}
+use lib.Dec.{eqb}
+use Rattle.task.specs.Tasks.{inPhase}
+use Rattle.task.specs.Selections.{picks}
+use Rattle.task.specs.declared.Phase.{Phase}
+use Rattle.task.specs.declared.Phase.the-variants.{Waiting, Running, Unconfirmed}
+use Rattle.task.specs.declared.Task.{Task}
+use Rattle.task.proofs.Ways.{cond-ind}
+use Rattle.history.specs.Trace.{Label, byStatus, isStatus, Effect, Nothing, Accepts, Starts, Finishes, Restarts, Ends, Fate, stays, becomes, ended, fateOf}
+use Rattle.history.specs.Ledger.{Entry, isOpen, newEntry, met, meeting, coming}
+
+-- ---- the fate of a command
+
+-- a fact about a command's fate, from each sort of fate: what goes on is the command still, save its phase, bytes and offset
+fate-ways : (P : Fate → Type 0) (effect : Effect) (a : Task) → P stays → ((phase : Phase) (transferred offset : ℕ) → P (becomes (inPhase phase transferred offset a)))
+    → ((how : Label) → P (ended how)) → P (fateOf effect a)
+unfolding fateOf
+fate-ways P Nothing a s b d = s
+fate-ways P (Accepts c) a s b d = s
+fate-ways P (Starts n) a s b d = cond-ind P (eqb (a .arrival) n) (λ _. b Running _ _) (λ _. s)
+fate-ways P (Finishes n transferred) a s b d =
+    cond-ind P (eqb (a .arrival) n) (λ _. cond-ind P (a .confirm) (λ _. b Unconfirmed transferred _) (λ _. d byStatus)) (λ _. s)
+fate-ways P (Restarts r offset) a s b d = cond-ind P (picks r a) (λ _. b Waiting _ offset) (λ _. s)
+fate-ways P (Ends r how) a s b d = cond-ind P (picks r a) (λ _. d how) (λ _. s)
+
+-- a fact about an entry after event n, from each way that it may go
+pub meeting-ways : (P : Entry → Type 0) (n : ℕ) (effect : Effect) (e : Entry) → P e
+    → ((phase : Phase) (transferred offset : ℕ) → isOpen e ≡ true
+    → P (record { task = inPhase phase transferred offset (e .task); accepted = e .accepted; endings = e .endings }))
+    → ((how : Label) → fateOf effect (e .task) ≡ ended how
+    → P (record { task = e .task; accepted = e .accepted; endings = e .endings ++ (record { event = n; how = how } ∷ []) }))
+    → P (meeting n effect e)
+unfolding meeting
+meeting-ways P n effect e s b d =
+    fate-ways (λ (x : Fate). fateOf effect (e .task) ≡ x → P (met n x e)) effect (e .task) (λ _. s)
+    (λ phase transferred offset _. cond-ind P (isOpen e) (b phase transferred offset) (λ _. s))
+    (λ how f. cond-ind P (isOpen e || isStatus how) (λ _. d how f) (λ _. s)) refl
+
+-- ---- the command that an event accepts, if it does
+
+abbrev pub taken : Effect → Option Task
+taken Nothing = none
+taken (Accepts a) = some a
+taken (Starts n) = none
+taken (Finishes n transferred) = none
+taken (Restarts s offset) = none
+taken (Ends s how) = none
+
+pub coming-ways : (P : Option Task → List Entry → Type 0) (n : ℕ) (effect : Effect) → P none []
+    → ((a : Task) → effect ≡ Accepts a → P (some a) (newEntry n a ∷ [])) → P (taken effect) (coming n effect)
+coming-ways P n Nothing nothing accepts = nothing
+coming-ways P n (Accepts a) nothing accepts = accepts a refl
+coming-ways P n (Starts arrival) nothing accepts = nothing
+coming-ways P n (Finishes arrival transferred) nothing accepts = nothing
+coming-ways P n (Restarts s offset) nothing accepts = nothing
+coming-ways P n (Ends s how) nothing accepts = nothing
