@@ -51,7 +51,7 @@ AcceptKeeps = (t : Table) (path tag unit : ℕ) (kind : Kind) (confirm : Bool) �
 abbrev pub EndKeeps : Type 0
 EndKeeps = (t : Table) (s : Selection) → Good t → Good (endedBy t s)
 
--- b is the task a, save its phase, bytes and offset
+-- b has the number, tag, path, unit and kind of a
 pub record SameTask (a b : Task) : Type 0 where
   pub arrival : b .arrival ≡ a .arrival
   pub tag : b .tag ≡ a .tag

@@ -3,7 +3,6 @@ ghost use mathlib.Core.Path.{_≡_};
 ghost use Prim.Native.Nat.{_%_};
 ghost use mathlib.Core.List.{_++_};
 ghost use Rattle.wire.specs.Paper;
-ghost use Rattle.transcript.specs.Lines;
 ghost use Rattle.transcript.specs.Lines.{emptyLine, pushed, pushAll, decimalOf, digitOf, hexOf, hexWord, senseText, answerText, lineOf, endOk, Handed};
 ghost use Rattle.transcript.specs.Text.{endOf};
 use plan::Answer;
