@@ -25,11 +25,11 @@ use Rattle.task.proofs.Bits.{mapOf-lt, live-mapOf}
 use Rattle.task.proofs.Maps.{with-lt}
 use Rattle.task.proofs.Lists.{length-mapAt, getD-mapAt, is-mapAt}
 use Rattle.task.proofs.Selecting.{picks-named, picks-aca-on, picks-running-on}
-use Rattle.table.specs.Tables.{noPath, noUnit, pathAt, unitAt, taskAt, isAttached, anyLive, lastArrival, hasRoom, withTasks, withPaths, withUnits, newTask, accepted, endedBy, alteredAt, started, restarted, markedIn, attendedIn, alarmedPath, alarmedIn, loses, losersOf, warnedIn, claimedUnit, claimedIn, acaClearedIn, claimedBy, finished, resetOf}
+use Rattle.table.specs.Tables.{noPath, noUnit, pathAt, unitAt, taskAt, isAttached, anyLive, lastArrival, hasRoom, withTasks, withPaths, withUnits, newTask, accepted, endedBy, alteredAt, markedIn, attendedIn, alarmedPath, alarmedIn, loses, losersOf, warnedIn, claimedUnit, claimedIn, acaClearedIn, claimedBy, finished, resetOf}
 use Rattle.table.specs.Setup.{seenBefore, badList, freshPath, freshPaths, pathsOf, freshTable, setupTable}
 use Rattle.table.specs.Sound.{Sound}
 use Rattle.table.specs.View.{at}
-use Rattle.table.specs.Promises.{Good, FreshIsGood, MayCome, AcceptKeeps, EndKeeps, SameTask, AlterKeeps, ClaimKeeps, ClearKeeps, MarkKeeps, AttendKeeps, AlarmKeeps, WarnKeeps, ResetOfKeeps, ResetIsSetup}
+use Rattle.table.specs.Promises.{Good, FreshIsGood, MayCome, AcceptKeeps, EndKeeps, SameTask, AlterKeeps, StartedKeeps, RestartedKeeps, FinishedKeeps, ClaimKeeps, ClearKeeps, MarkKeeps, AttendKeeps, AlarmKeeps, WarnKeeps, ResetOfKeeps, ResetIsSetup}
 use Rattle.table.specs.declared.Aca.{Aca}
 use Rattle.table.specs.declared.Aca.the-variants.{Clear, Owned}
 use Rattle.table.specs.declared.Path as path
@@ -296,10 +296,10 @@ alter-keeps t k b g x n =
 pub same-in : (phase : Phase) (transferred offset : ℕ) (a : Task) → SameTask a (inPhase phase transferred offset a)
 same-in phase transferred offset a = record { arrival = refl; tag = refl; path = refl; unit = refl; kind = refl }
 
-pub start-keeps : (t : Table) (i : ℕ) → Good t → anyLive t (runningOn (taskAt t i .unit)) ≡ false → Good (started t i)
+pub start-keeps : StartedKeeps
 start-keeps t i g n = alter-keeps t i _ g (same-in _ _ _ (taskAt t i)) (λ _. n)
 
-pub restart-keeps : (t : Table) (i offset : ℕ) → Good t → Good (restarted t i offset)
+pub restart-keeps : RestartedKeeps
 restart-keeps t i offset g = alter-keeps t i _ g (same-in _ _ _ (taskAt t i)) (λ r. absurd (never r refl))
 
 new-fits : (t : Table) (path tag unit : ℕ) (kind : Kind) (confirm : Bool) (k : ℕ) → Sound t → MayCome t path tag unit kind
@@ -333,7 +333,7 @@ pub may-come : {t : Table} (l : List path.Path) {path tag unit : ℕ} {kind : Ki
 unfolding anyLive
 may-come l m = record { listed = m .listed; attached = m .attached; free = m .free; owner = m .owner; alone = m .alone }
 
-pub finish-keeps : (t : Table) (i : ℕ) (failed : Bool) (transferred : ℕ) → Good t → Good (finished t i failed transferred)
+pub finish-keeps : FinishedKeeps
 unfolding finished
 finish-keeps t i failed transferred g =
     let a = taskAt t i in

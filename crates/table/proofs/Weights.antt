@@ -1,27 +1,29 @@
 -- What each change does to the weight of the live tasks. Assumes nothing.
 use Prim.Native.Nat.{ℕ, _+_, _<_}
-use mathlib.Core.Path.{_≡_, refl, ap, _∙_}
-use mathlib.Core.Bool.{Bool, true, false, cond}
+use mathlib.Core.Path.{_≡_, refl, sym, ap, _∙_}
+use mathlib.Core.Bool.{Bool, true, false, cond, _&&_}
 use mathlib.Core.List.{List}
 use mathlib.Core.Option.{Option, none, some}
 use native.Mathlib.Omega.{arith}
+use lib.Dec.{ltb}
 use borrow.Author.Tests.{ltb-true}
 use Rattle.task.specs.Index.{one}
+use Rattle.task.specs.Tasks.{runs}
 use Rattle.task.specs.Map.{isLive, lowestFree}
 use Rattle.task.specs.Selections.{picks}
 use Rattle.task.specs.declared.Task.{Task}
-use Rattle.task.proofs.Ways.{both}
+use Rattle.task.proofs.Ways.{both, cond-ind}
 use Rattle.task.proofs.Places.{sum-ext, sum-zero, sum-change}
 use Rattle.task.proofs.Bits.{ones-count}
 use Rattle.table.specs.Tables.{taskAt, hasRoom, withPaths, withUnits, putAt, newTask, endedBy, alteredAt, resetOf}
 use Rattle.table.specs.Setup.{setupTable}
 use Rattle.table.specs.Sound.{Shaped}
 use Rattle.table.specs.View.{at, weightAt, weight}
-use Rattle.table.specs.Promises.{AcceptWeighs, EndWeighs, AlterWeighs, SetupWeighs, ResetWeighs, OnesAreLive}
+use Rattle.table.specs.Promises.{AcceptWeighs, EndWeighs, AlterWeighs, StartWeighs, SetupWeighs, ResetWeighs, OnesAreLive}
 use Rattle.table.specs.declared.Path as path
 use Rattle.table.specs.declared.Unit as unit
 use Rattle.table.specs.declared.Table.{Table}
-use Rattle.table.proofs.Views.{at-put, at-put-other, accepted-put, at-free, spared, at-ended, altered-at, altered-other, at-setup, at-reset, same-at}
+use Rattle.table.proofs.Views.{at-live, at-put, at-put-other, accepted-put, at-free, spared, at-ended, altered-at, altered-other, at-setup, at-reset, same-at}
 
 -- by places: each weighs the same, none has a task, one is filled
 pub weight-ext : (f g : Task → ℕ) (t u : Table) → ((i : ℕ) → i < 64 → weightAt f (at t i) ≡ weightAt g (at u i)) → weight f t ≡ weight g u
@@ -66,6 +68,17 @@ alter-weighs f t k a b h l e =
     let c =
     sum-change 64 k (λ i. weightAt f (at (alteredAt t k b) i)) (λ i. weightAt f (at t i)) l (λ i _ n. ap (weightAt f) (altered-other t k b i n)) in
     omega (arith, c, ap (weightAt f) e, ap (weightAt f) (altered-at t k b h l e))
+
+pub start-weighs : StartWeighs
+unfolding alteredAt
+start-weighs f t i h same =
+    let a : Task = taskAt t i in
+    cond-ind (λ (u : Table). alteredAt t i (runs a) ≡ u → weight f u ≡ weight f t) (ltb i 64 && isLive (t .live) i)
+    (λ y e.
+    let p = both (ltb i 64) _ y in
+    let w = alter-weighs f t i a (runs a) h (ltb-true i 64 (p .0)) (at-live t i (p .1)) in
+    sym (ap (weight f) e) ∙ omega (arith, w, same a))
+    (λ _ _. refl) refl
 
 pub setup-weighs : SetupWeighs
 setup-weighs f ids attached next = weight-none f (setupTable ids attached next) (at-setup ids attached next)

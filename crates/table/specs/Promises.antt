@@ -7,7 +7,7 @@ use mathlib.Core.List.{List}
 use mathlib.Core.Option.{some}
 use lib.ListN.{length, getD}
 use lib.Count.{ones}
-use Rattle.task.specs.Tasks.{isAca, isRunning}
+use Rattle.task.specs.Tasks.{isAca, isRunning, runs}
 use Rattle.task.specs.Selections.{picks, named, acaOn, runningOn}
 use Rattle.task.specs.declared.Kind.{Kind}
 use Rattle.task.specs.declared.Task.{Task}
@@ -16,7 +16,7 @@ use Rattle.task.specs.declared.select.Place.{Place}
 use Rattle.task.specs.declared.select.Place.the-variants.{Anywhere, On}
 use Rattle.table.specs.Tables.{pathAt, unitAt, taskAt, isAttached, anyLive, pickOf, hasRoom, newTask, withPaths, withUnits}
 use Rattle.table.specs.Tables.{markedIn, attendedIn, alarmedIn, warnedIn, losersOf, claimedIn, acaClearedIn}
-use Rattle.table.specs.Tables.{accepted, endedBy, alteredAt, resetOf}
+use Rattle.table.specs.Tables.{accepted, endedBy, alteredAt, started, restarted, finished, resetOf}
 use Rattle.table.specs.Setup.{badList, setupTable}
 use Rattle.table.specs.Sound.{Shaped, Sound, soundOf}
 use Rattle.table.specs.View.{at, weight}
@@ -62,6 +62,15 @@ pub record SameTask (a b : Task) : Type 0 where
 -- a record may change so where its task does not run then, or nothing runs on its unit before: a start, a finish that leaves the task unconfirmed, and a restart
 abbrev pub AlterKeeps : Type 0
 AlterKeeps = (t : Table) (i : ℕ) (b : Task) → Good t → SameTask (taskAt t i) b → (isRunning (b .phase) ≡ true → anyLive t (runningOn (b .unit)) ≡ false) → Good (alteredAt t i b)
+
+abbrev pub StartedKeeps : Type 0
+StartedKeeps = (t : Table) (i : ℕ) → Good t → anyLive t (runningOn (taskAt t i .unit)) ≡ false → Good (started t i)
+
+abbrev pub RestartedKeeps : Type 0
+RestartedKeeps = (t : Table) (i offset : ℕ) → Good t → Good (restarted t i offset)
+
+abbrev pub FinishedKeeps : Type 0
+FinishedKeeps = (t : Table) (i : ℕ) (failed : Bool) (transferred : ℕ) → Good t → Good (finished t i failed transferred)
 
 abbrev pub ClaimKeeps : Type 0
 ClaimKeeps = (t : Table) (unit path : ℕ) → Good t → isAttached t unit ≡ true → path < t .count → Good (withUnits t (claimedIn (t .units) unit path))
@@ -113,6 +122,10 @@ EndWeighs = (f : Task → ℕ) (t : Table) (s : Selection) → Shaped t → weig
 -- a record that changes has the new task's weight in place of the old one's
 abbrev pub AlterWeighs : Type 0
 AlterWeighs = (f : Task → ℕ) (t : Table) (i : ℕ) (a b : Task) → Shaped t → i < 64 → at t i ≡ some a → weight f (alteredAt t i b) + f a ≡ weight f t + f b
+
+-- a start changes no weight that does not look at the phase
+abbrev pub StartWeighs : Type 0
+StartWeighs = (f : Task → ℕ) (t : Table) (i : ℕ) → Shaped t → ((a : Task) → f (runs a) ≡ f a) → weight f (started t i) ≡ weight f t
 
 -- setup and total reset leave no task
 abbrev pub SetupWeighs : Type 0
