@@ -74,11 +74,9 @@ heard-all m e h = h ∙ rw e
 -- the plan for what the path at p asks
 module _ (s : Seen) (next p tag : ℕ) (m : List ℕ) (w : What) {pl : Plan} where
   pub unlisted : 8 ≤ p → pl ≡ refusing Paper.unknownPath → pl ≡ listedPlan s next p tag m w
-  unfolding listedPlan
   unlisted h k = rw (le-ltb p 8 h) k
 
   pub listed : p < 8 → pl ≡ planOf s next p tag m w → pl ≡ listedPlan s next p tag m w
-  unfolding listedPlan
   listed h k = rw (lt-ltb p 8 h) k
 
 pub ruleset plan-ways = (unlisted, listed)
@@ -95,7 +93,7 @@ module _ (t : Table) (m : List ℕ) {a : Asked} {pl : Plan} where
 
   pub read-by : {path tag p n u : ℕ} {b : Bool} {w : What} {s : Seen} → a ≡ By path tag w → p ≡ pathOf t path → n ≡ tagAsked tag w → u ≡ unitAsked w → b ≡ clearsSet w
       → s ≡ seenOf t p n u b → pl ≡ listedPlan s (t .next) p tag m w → pl ≡ planHeard t m a
-  unfolding planHeard planFor planAt listedPlan
+  unfolding planHeard planFor planAt
   read-by e p n u b s h = h ∙ rw (e, s, n, u, b, p)
 
 -- the plan carried out: paths and units, then the records

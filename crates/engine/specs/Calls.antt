@@ -56,20 +56,20 @@ abbrev pub senderOf : Asked → ℕ
 senderOf (Unread n) = 0
 senderOf (By path tag w) = path
 
--- the plan for what the path at p asks, by what was seen of the table; 8 is no place in the path list
-unfoldable pub listedPlan : Seen → ℕ → ℕ → ℕ → List ℕ → What → Plan
-listedPlan s next p tag m w = cond (ltb p 8) (planOf s next p tag m w) (refusing Paper.unknownPath)
-
--- what is to be seen of the table for it
+-- what is to be seen of the table for what the path at p asks
 abbrev pub seenFor : Table → ℕ → ℕ → What → Seen
 seenFor t p tag w = seenOf t p (tagAsked tag w) (unitAsked w) (clearsSet w)
 
--- the plan for what the path at p asks of the table; for what the path with an id asks
+-- the plan for it; 3 where p is 8, which is no place in the path list
 unfoldable pub planAt : Table → List ℕ → ℕ → ℕ → What → Plan
 planAt t m p tag w = planOf (seenFor t p tag w) (t .next) p tag m w
 
+abbrev pub listedPlan : Seen → ℕ → ℕ → ℕ → List ℕ → What → Plan
+listedPlan s next p tag m w = cond (ltb p 8) (planOf s next p tag m w) (refusing Paper.unknownPath)
+
+-- the plan for what the path with an id asks
 unfoldable pub planFor : Table → List ℕ → ℕ → ℕ → What → Plan
-planFor t m path tag w = cond (ltb (pathOf t path) 8) (planAt t m (pathOf t path) tag w) (refusing Paper.unknownPath)
+planFor t m path tag w = listedPlan (seenFor t (pathOf t path) tag w) (t .next) (pathOf t path) tag m w
 
 -- a plan carried out: paths and units, then the records
 abbrev pub withParts : Table → Change → Table

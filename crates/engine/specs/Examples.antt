@@ -7,10 +7,9 @@ use mathlib.Core.List.{List, [], _∷_, map}
 use lib.ListN.{replicate}
 use Rattle.wire.specs.Paper
 use Rattle.reply.specs.Calls.{placed}
-use Rattle.task.specs.Tasks.{noTask}
+use Rattle.task.specs.Tasks.{noTask, acceptedAs}
 use Rattle.task.specs.declared.Task.{Task}
 use Rattle.task.specs.declared.Kind.the-variants.{Aca, Simple}
-use Rattle.task.specs.declared.Phase.the-variants.{Waiting}
 use Rattle.table.specs.Tables.{noPath, noUnit, accepted, started, finished}
 use Rattle.table.specs.declared.Table.{Table}
 use Rattle.table.specs.declared.Path as path
@@ -36,17 +35,7 @@ quiet = record {
 }
 
 abbrev pub queued : ℕ → Task
-queued k = record {
-  arrival = k;
-  transferred = 0;
-  offset = 0;
-  tag = 0x100 + k;
-  path = 0;
-  unit = 0;
-  kind = Simple;
-  phase = Waiting;
-  confirm = false;
-}
+queued k = acceptedAs k 0 (0x100 + k) 0 Simple false
 
 -- n tasks of path 1, with tags and arrival numbers from k on
 unfoldable pub tasksFrom : ℕ → ℕ → List Task

@@ -17,6 +17,7 @@ use Rattle.wire.specs.declared.codes.Refusal.{Refusal}
 use Rattle.wire.specs.declared.codes.ReturnCode.{ReturnCode}
 use Rattle.wire.specs.declared.codes.StatusByte.{StatusByte}
 use Rattle.wire.specs.declared.codes.Sense.{Sense}
+use Rattle.task.specs.Tasks.{acceptedAs}
 use Rattle.task.specs.Selections.{picks, numberedAs}
 use Rattle.task.specs.declared.Kind.{Kind}
 use Rattle.task.specs.declared.Task.{Task}
@@ -34,7 +35,7 @@ use Rattle.plan.specs.declared.Asked.{Asked}
 use Rattle.plan.specs.declared.Asked.the-variants.{By, Unread}
 use Rattle.plan.specs.declared.Answer.{Answer}
 use Rattle.plan.specs.declared.Answer.the-variants as answer
-use Rattle.history.specs.Trace.{Event, Message, Start, Finish, TotalReset, Told, nth, eventAt, Label, byStatus, byOrder, Effect, Nothing, Accepts, Restarts, Ends, Fate, stays, becomes, ended, fateOf, placeIn, acceptedTask, commandEffect, orderEffect, confirmEffect, messageEffect, startEffect, finishEffect, resetEffect, effectOf, did}
+use Rattle.history.specs.Trace.{Event, Message, Start, Finish, TotalReset, Told, nth, eventAt, Label, byStatus, byOrder, Effect, Nothing, Accepts, Restarts, Ends, Fate, stays, becomes, ended, fateOf, placeIn, commandEffect, orderEffect, confirmEffect, messageEffect, startEffect, finishEffect, resetEffect, effectOf, did}
 use Rattle.history.specs.Ledger.{Ending, Entry, isEmpty, newEntry, meeting, coming, noted, ledgerFrom, ledger, Has}
 use Rattle.history.specs.Demand.{EntryAt, waiting, Came, Caused, reachesOthers, mayReachOthers, EndsItsOwn}
 use Rattle.history.proofs.Nth.{Each, same-element, nth-below, nth-append, nth-last, nth-map, each-none, each-one, each-append, each-map}
@@ -59,7 +60,7 @@ each-answer P ready accepted response status invalid started confirmed restarted
 
 module _ (P : Effect → Type 0) (nothing : P Nothing) where
   -- a command is accepted, and then waits
-  command-can : (p tag lun : ℕ) (kind : Kind) (confirm : Bool) → ((n : ℕ) → P (Accepts (acceptedTask p tag lun kind confirm n)))
+  command-can : (p tag lun : ℕ) (kind : Kind) (confirm : Bool) → ((n : ℕ) → P (Accepts (acceptedAs n p tag lun kind confirm)))
       → (a : Answer) → P (commandEffect p tag lun kind confirm a)
   command-can p tag lun kind confirm accepts =
       each-answer (λ a. P (commandEffect p tag lun kind confirm a)) nothing accepts (λ _ _. nothing) (λ _ _ _. nothing) (λ _. nothing) (λ _ _. nothing) (λ _. nothing) (λ _. nothing) nothing (λ _. nothing)

@@ -7,7 +7,7 @@ use mathlib.Core.Option.{some}
 use lib.ListN.{length}
 use lib.Count.{ones}
 use Rattle.wire.specs.Messages.{readOf}
-use Rattle.task.specs.declared.Phase.the-variants.{Waiting}
+use Rattle.task.specs.Tasks.{acceptedAs}
 use Rattle.task.specs.declared.Task.{Task}
 use Rattle.table.specs.Tables.{pathOf}
 use Rattle.table.specs.View.{at, liveOf}
@@ -66,17 +66,7 @@ EntryAt ids h k e = nth (ledger ids h) k ≡ some e
 
 -- a task as it is when its command is accepted
 abbrev pub waiting : Task → Task
-waiting a = record {
-  arrival = a .arrival;
-  transferred = 0;
-  offset = 0;
-  tag = a .tag;
-  path = a .path;
-  unit = a .unit;
-  kind = a .kind;
-  phase = Waiting;
-  confirm = a .confirm;
-}
+waiting a = acceptedAs (a .arrival) (a .path) (a .tag) (a .unit) (a .kind) (a .confirm)
 
 -- an entry's command was accepted by an event of the trace, the one whose number stands in the entry
 pub record Came (ids : List ℕ) (h : List Told) (e : Entry) : Type 0 where

@@ -11,10 +11,9 @@ use Rattle.wire.specs.Messages.{readOf}
 use Rattle.wire.specs.declared.codes.StatusByte.{StatusByte}
 use Rattle.wire.specs.declared.codes.Sense.{Sense}
 use Rattle.task.specs.Index.{first}
-use Rattle.task.specs.Tasks.{runs, awaits, restarts}
+use Rattle.task.specs.Tasks.{acceptedAs, runs, awaits, restarts}
 use Rattle.task.specs.Selections.{picks, everyTask, numberedAs}
 use Rattle.task.specs.declared.Kind.{Kind}
-use Rattle.task.specs.declared.Phase.the-variants.{Waiting}
 use Rattle.task.specs.declared.Task.{Task}
 use Rattle.task.specs.declared.select.Selection.{Selection}
 use Rattle.rules.specs.Management.{endsOf}
@@ -117,22 +116,9 @@ unfoldable pub placeIn : List ℕ → ℕ → ℕ
 placeIn ids id = first (length ids) (λ p. eqb (getD ids p 0) id)
 
 -- a command from the path at p is accepted where the answer says so, under the number that the answer names
-abbrev pub acceptedTask : ℕ → ℕ → ℕ → Kind → Bool → ℕ → Task
-acceptedTask p tag lun kind confirm n = record {
-  arrival = n;
-  transferred = 0;
-  offset = 0;
-  tag = tag;
-  path = p;
-  unit = lun;
-  kind = kind;
-  phase = Waiting;
-  confirm = confirm;
-}
-
 abbrev pub commandEffect : ℕ → ℕ → ℕ → Kind → Bool → Answer → Effect
 commandEffect p tag lun kind confirm answer.Ready = Nothing
-commandEffect p tag lun kind confirm (answer.Accepted n) = Accepts (acceptedTask p tag lun kind confirm n)
+commandEffect p tag lun kind confirm (answer.Accepted n) = Accepts (acceptedAs n p tag lun kind confirm)
 commandEffect p tag lun kind confirm (answer.Response t code) = Nothing
 commandEffect p tag lun kind confirm (answer.Status t status sense) = Nothing
 commandEffect p tag lun kind confirm (answer.Invalid t) = Nothing

@@ -5,12 +5,11 @@ use mathlib.Core.List.{List}
 use lib.ListN.{getD, set, replicate}
 use lib.Dec.{eqb, ltb, leb}
 use Rattle.task.specs.Index.{first, some, mapOf, mapAt}
-use Rattle.task.specs.Tasks.{noTask, runs, awaits, restarts}
+use Rattle.task.specs.Tasks.{noTask, acceptedAs, runs, awaits, restarts}
 use Rattle.task.specs.Map.{isLive, lowestFree, withBit}
 use Rattle.task.specs.Selections.{picks, picksLive, fromOn, runningAs}
 use Rattle.task.specs.Scan.{scan}
 use Rattle.task.specs.declared.Kind.{Kind}
-use Rattle.task.specs.declared.Phase.the-variants.{Waiting}
 use Rattle.task.specs.declared.Task.{Task}
 use Rattle.task.specs.declared.select.Selection.{Selection}
 use Rattle.task.specs.declared.select.Place.{Place}
@@ -118,17 +117,7 @@ putAt t i a = record {
 }
 
 abbrev pub newTask : Table → ℕ → ℕ → ℕ → Kind → Bool → Task
-newTask t path tag unit kind confirm = record {
-  arrival = t .next;
-  transferred = 0;
-  offset = 0;
-  tag = tag;
-  path = path;
-  unit = unit;
-  kind = kind;
-  phase = Waiting;
-  confirm = confirm;
-}
+newTask t path tag unit kind confirm = acceptedAs (t .next) path tag unit kind confirm
 
 -- a new task takes the lowest-numbered free record; with no room nothing changes
 unfoldable pub accepted : Table → ℕ → ℕ → ℕ → Kind → Bool → Table

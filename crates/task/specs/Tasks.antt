@@ -60,6 +60,20 @@ noTask = record {
   confirm = false;
 }
 
+-- a task as it is when its command is accepted
+abbrev pub acceptedAs : ℕ → ℕ → ℕ → ℕ → Kind → Bool → Task
+acceptedAs arrival path tag unit kind confirm = record {
+  arrival = arrival;
+  transferred = 0;
+  offset = 0;
+  tag = tag;
+  path = path;
+  unit = unit;
+  kind = kind;
+  phase = phase.Waiting;
+  confirm = confirm;
+}
+
 -- ---- a record that changes while its task is live; the fields not named stay
 
 abbrev pub inPhase : Phase → ℕ → ℕ → Task → Task
