@@ -95,7 +95,7 @@ module _ (t : Table) (m : List ℕ) (path tag tag2 : ℕ) where
   plan-answer = order-answer (factsOf t p tag2 (unitAsked abort) (clearsSet abort)) p tag m (order.AbortTask tag2)
 
   for-answer : planFor t m path tag abort .answer ≡ defined
-  unfolding planAt planFor
+  unfolding planFor
   for-answer = by-place (ltb p 8) _ _ plan-answer
     where
       by-place : (b : Bool) (x y : Plan) {a : Answer} → x .answer ≡ a → cond b x y .answer ≡ cond b a (y .answer)

@@ -9,7 +9,7 @@ use Prim.Native.Nat.{ℕ, _<_, _≤_}
 use mathlib.Core.Path.{_≡_, refl, _∙_}
 use mathlib.Core.Bool.{Bool, true, false, cond, not, _&&_, _||_}
 use mathlib.Core.List.{List}
-use lib.Dec.{eqb, leb}
+use lib.Dec.{eqb, leb, ltb}
 use borrow.Author.Tests.{lt-ltb, le-ltb, le-leb, lt-leb, eq-eqb, ne-eqb}
 use Rattle.wire.specs.Paper
 use Rattle.wire.specs.Messages.{readOf}
@@ -41,7 +41,7 @@ use Rattle.plan.specs.declared.Deed.{Deed}
 use Rattle.plan.specs.declared.Plan.{Plan}
 use Rattle.plan.specs.declared.Answer.{Answer}
 use Rattle.plan.specs.declared.Answer.the-variants as answer
-use Rattle.engine.specs.Calls.{out, refused, heardOf, senderOf, listedPlan, planAt, planFor, acted, carriedOut, replyPath, carried, answeredTo, messageOf, verdict, settled, mayGo, choiceOn, goes, startVerdict, startOf, sentSense, runningTask, failed, finishVerdict, finishOf, totalResetOf, setupOf, replied, Answers}
+use Rattle.engine.specs.Calls.{out, refused, heardOf, senderOf, planAt, planFor, acted, carriedOut, replyPath, carried, answeredTo, messageOf, verdict, settled, mayGo, choiceOn, goes, startVerdict, startOf, sentSense, runningTask, failed, finishVerdict, finishOf, totalResetOf, setupOf, replied, Answers}
 use Rattle.engine.specs.declared.Outcome.{Outcome}
 use Rattle.engine.specs.declared.calls.Verdict.{Verdict}
 
@@ -73,10 +73,10 @@ heard-all m e h = h ∙ rw e
 
 -- the plan for what the path at p asks
 module _ (s : Seen) (next p tag : ℕ) (m : List ℕ) (w : What) {pl : Plan} where
-  pub unlisted : 8 ≤ p → pl ≡ refusing Paper.unknownPath → pl ≡ listedPlan s next p tag m w
+  pub unlisted : 8 ≤ p → pl ≡ refusing Paper.unknownPath → pl ≡ cond (ltb p 8) (planOf s next p tag m w) (refusing Paper.unknownPath)
   unlisted h k = rw (le-ltb p 8 h) k
 
-  pub listed : p < 8 → pl ≡ planOf s next p tag m w → pl ≡ listedPlan s next p tag m w
+  pub listed : p < 8 → pl ≡ planOf s next p tag m w → pl ≡ cond (ltb p 8) (planOf s next p tag m w) (refusing Paper.unknownPath)
   listed h k = rw (lt-ltb p 8 h) k
 
 pub ruleset plan-ways = (unlisted, listed)
@@ -92,7 +92,7 @@ module _ (t : Table) (m : List ℕ) {a : Asked} {pl : Plan} where
   unread e h = rw e h
 
   pub read-by : {path tag p n u : ℕ} {b : Bool} {w : What} {s : Seen} → a ≡ By path tag w → p ≡ pathOf t path → n ≡ tagAsked tag w → u ≡ unitAsked w → b ≡ clearsSet w
-      → s ≡ seenOf t p n u b → pl ≡ listedPlan s (t .next) p tag m w → pl ≡ planHeard t m a
+      → s ≡ seenOf t p n u b → pl ≡ cond (ltb p 8) (planOf s (t .next) p tag m w) (refusing Paper.unknownPath) → pl ≡ planHeard t m a
   unfolding planHeard planFor planAt
   read-by e p n u b s h = h ∙ rw (e, s, n, u, b, p)
 

@@ -40,7 +40,7 @@ module _ (P : Outcome → Type 0) (t : Table) (stops : (n : Refusal) → P (refu
     Answered a = P (answeredTo t m a)
 
     asked : Carried → (a : Asked) → askedOf (readOf m) ≡ a → Answered a
-    unfolding answeredTo planAt planFor carriedOut acted
+    unfolding answeredTo planFor carriedOut acted
     asked goes (Unread n) e = stops n
     asked goes (By path tag w) e =
         cond-ind (λ (pl : Plan). P (carried t path pl)) (ltb (pathOf t path) 8) (λ l. goes path tag w e (ltb-true _ 8 l)) (λ _. stops Paper.unknownPath)

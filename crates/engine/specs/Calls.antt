@@ -56,20 +56,16 @@ abbrev pub senderOf : Asked → ℕ
 senderOf (Unread n) = 0
 senderOf (By path tag w) = path
 
--- what is to be seen of the table for what the path at p asks
+-- what is to be seen of the table for what the path at p asks, and the plan for it
 abbrev pub seenFor : Table → ℕ → ℕ → What → Seen
 seenFor t p tag w = seenOf t p (tagAsked tag w) (unitAsked w) (clearsSet w)
 
--- the plan for it; 3 where p is 8, which is no place in the path list
 unfoldable pub planAt : Table → List ℕ → ℕ → ℕ → What → Plan
 planAt t m p tag w = planOf (seenFor t p tag w) (t .next) p tag m w
 
-abbrev pub listedPlan : Seen → ℕ → ℕ → ℕ → List ℕ → What → Plan
-listedPlan s next p tag m w = cond (ltb p 8) (planOf s next p tag m w) (refusing Paper.unknownPath)
-
--- the plan for what the path with an id asks
+-- the plan for what the path with an id asks: 3 where it is not listed
 unfoldable pub planFor : Table → List ℕ → ℕ → ℕ → What → Plan
-planFor t m path tag w = listedPlan (seenFor t (pathOf t path) tag w) (t .next) (pathOf t path) tag m w
+planFor t m path tag w = cond (ltb (pathOf t path) 8) (planAt t m (pathOf t path) tag w) (refusing Paper.unknownPath)
 
 -- a plan carried out: paths and units, then the records
 abbrev pub withParts : Table → Change → Table

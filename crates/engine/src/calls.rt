@@ -1,8 +1,12 @@
 // The five calls, and the part of a message that is its command block.
 ghost use mathlib.Core.Path.{_≡_};
+ghost use mathlib.Core.Bool.{cond};
 ghost use lib.ListN.{length};
-ghost use Rattle.engine.specs.Calls.{replyPath, heardOf, senderOf, listedPlan, messageOf, mayGo, rejected, startVerdict, startOf, mayFinish, sentSense, finishVerdict, finishOf, totalResetOf, setupOf, replied, Answers, handedOver};
+ghost use lib.Dec.{ltb};
+ghost use Rattle.engine.specs.Calls.{replyPath, heardOf, senderOf, messageOf, mayGo, rejected, startVerdict, startOf, mayFinish, sentSense, finishVerdict, finishOf, totalResetOf, setupOf, replied, Answers, handedOver};
+ghost use Rattle.wire.specs.Paper;
 ghost use Rattle.wire.specs.Paper.{statusByte, sense};
+ghost use Rattle.plan.specs.Plans.{refusing, planOf};
 ghost use Rattle.task.specs.Selections.{runningOn};
 use crate::Outcome;
 use plan::Answer;
@@ -109,7 +113,7 @@ fn reply_to(a: Answer, reply: &mut [u8])
 
 // The plan for what the path at p asks: refusal 3 where it is not listed, then by rules, orders and confirmations.
 fn plan_for(s: Seen, next: u64, p: u8, tag: u16, m: &[u8], w: What) -> Plan
-    ensures { λ r. ⌜ r ≡ listedPlan s next p tag (now (m .entry)) w ⌝ }
+    ensures { λ r. ⌜ r ≡ cond (ltb p 8) (planOf s next p tag (now (m .entry)) w) (refusing Paper.unknownPath) ⌝ }
 {
     if p >= 8 {
         return plan::refuse(Refusal::UNKNOWN_PATH);
