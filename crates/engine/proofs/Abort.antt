@@ -22,12 +22,12 @@ use Rattle.table.specs.Promises.{Good}
 use Rattle.table.specs.declared.Table.{Table}
 use Rattle.table.proofs.Views.{some-any, any-some, any-is-found}
 use Rattle.table.proofs.Exact.{check-is-exact}
-use Rattle.rules.specs.Rules.{factsOf, seenOf}
+use Rattle.rules.specs.Rules.{factsOf, lookupOf}
 use Rattle.rules.specs.Management.{orderCode}
 use Rattle.rules.specs.declared.manage.Order.the-variants as order
 use Rattle.plan.specs.Plans.{unitAsked, clearsSet}
-use Rattle.plan.specs.declared.What.{What}
-use Rattle.plan.specs.declared.What.the-variants.{Manage}
+use Rattle.plan.specs.declared.Request.{Request}
+use Rattle.plan.specs.declared.Request.the-variants.{Manage}
 use Rattle.plan.specs.declared.Plan.{Plan}
 use Rattle.plan.specs.declared.Answer.{Answer}
 use Rattle.plan.specs.declared.Answer.the-variants as answer
@@ -81,7 +81,7 @@ abbrev abortAnswer : List ℕ → ℕ → ℕ → Bool → Answer
 abortAnswer m tag p taken = cond (ltb p 8) (response m tag taken) (answer.Refused Paper.unknownPath)
 
 module _ (t : Table) (m : List ℕ) (path tag tag2 : ℕ) where
-  abbrev abort : What
+  abbrev abort : Request
   abort = Manage (order.AbortTask tag2)
 
   abbrev p : ℕ
@@ -91,7 +91,7 @@ module _ (t : Table) (m : List ℕ) (path tag tag2 : ℕ) where
   defined = abortAnswer m tag p (pickOf t (named p tag2) .found)
 
   plan-answer : planAt t m p tag abort .answer ≡ response m tag (pickOf t (named p tag2) .found)
-  unfolding planAt seenOf orderCode factsOf
+  unfolding planAt lookupOf orderCode factsOf
   plan-answer = order-answer (factsOf t p tag2 (unitAsked abort) (clearsSet abort)) p tag m (order.AbortTask tag2)
 
   for-answer : planFor t m path tag abort .answer ≡ defined

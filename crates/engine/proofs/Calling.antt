@@ -31,17 +31,17 @@ use Rattle.table.specs.declared.Aca.{Aca}
 use Rattle.table.specs.declared.Path as path
 use Rattle.table.specs.declared.Unit as unit
 use Rattle.table.specs.declared.Table.{Table}
-use Rattle.rules.specs.Rules.{hasAca, seenOf}
-use Rattle.rules.specs.declared.rules.Seen.{Seen}
+use Rattle.rules.specs.Rules.{hasAca, lookupOf}
+use Rattle.rules.specs.declared.rules.Lookup.{Lookup}
 use Rattle.plan.specs.Plans.{askedOf, tagAsked, unitAsked, clearsSet, refusing, planOf, pathsAfter, unitsAfter}
-use Rattle.plan.specs.declared.What.{What}
+use Rattle.plan.specs.declared.Request.{Request}
 use Rattle.plan.specs.declared.Asked.{Asked}
 use Rattle.plan.specs.declared.Asked.the-variants.{By, Unread}
-use Rattle.plan.specs.declared.Deed.{Deed}
+use Rattle.plan.specs.declared.RecordChange.{RecordChange}
 use Rattle.plan.specs.declared.Plan.{Plan}
 use Rattle.plan.specs.declared.Answer.{Answer}
 use Rattle.plan.specs.declared.Answer.the-variants as answer
-use Rattle.engine.specs.Calls.{out, refused, heardOf, senderOf, planAt, planFor, acted, carriedOut, replyPath, carried, answeredTo, messageOf, verdict, settled, mayGo, choiceOn, goes, startVerdict, startOf, sentSense, runningTask, failed, finishVerdict, finishOf, totalResetOf, setupOf, replied, Answers}
+use Rattle.engine.specs.Calls.{out, refused, heardOf, senderOf, planAt, planFor, withRecords, carriedOut, replyPath, carried, answeredTo, messageOf, verdict, settled, mayGo, choiceOn, goes, startVerdict, startOf, sentSense, runningTask, failed, finishVerdict, finishOf, totalResetOf, setupOf, replied, Answers}
 use Rattle.engine.specs.declared.Outcome.{Outcome}
 use Rattle.engine.specs.declared.calls.Verdict.{Verdict}
 
@@ -72,7 +72,7 @@ pub heard-all : (m : List ℕ) {g : Message} {a : Asked} → g ≡ readOf m → 
 heard-all m e h = h ∙ rw e
 
 -- the plan for what the path at p asks
-module _ (s : Seen) (next p tag : ℕ) (m : List ℕ) (w : What) {pl : Plan} where
+module _ (s : Lookup) (next p tag : ℕ) (m : List ℕ) (w : Request) {pl : Plan} where
   pub unlisted : 8 ≤ p → pl ≡ refusing Paper.unknownPath → pl ≡ cond (ltb p 8) (planOf s next p tag m w) (refusing Paper.unknownPath)
   unlisted h k = rw (le-ltb p 8 h) k
 
@@ -91,8 +91,8 @@ module _ (t : Table) (m : List ℕ) {a : Asked} {pl : Plan} where
   unfolding planHeard
   unread e h = rw e h
 
-  pub read-by : {path tag p n u : ℕ} {b : Bool} {w : What} {s : Seen} → a ≡ By path tag w → p ≡ pathOf t path → n ≡ tagAsked tag w → u ≡ unitAsked w → b ≡ clearsSet w
-      → s ≡ seenOf t p n u b → pl ≡ cond (ltb p 8) (planOf s (t .next) p tag m w) (refusing Paper.unknownPath) → pl ≡ planHeard t m a
+  pub read-by : {path tag p n u : ℕ} {b : Bool} {w : Request} {s : Lookup} → a ≡ By path tag w → p ≡ pathOf t path → n ≡ tagAsked tag w → u ≡ unitAsked w → b ≡ clearsSet w
+      → s ≡ lookupOf t p n u b → pl ≡ cond (ltb p 8) (planOf s (t .next) p tag m w) (refusing Paper.unknownPath) → pl ≡ planHeard t m a
   unfolding planHeard planFor planAt
   read-by e p n u b s h = h ∙ rw (e, s, n, u, b, p)
 
@@ -101,12 +101,12 @@ module _ (t : Table) (pl : Plan) {paths : List path.Path} {units : List unit.Uni
   abbrev changed : Table
   changed = record { live = t .live; next = t .next; count = t .count; attached = t .attached; paths = paths; units = units; tasks = t .tasks }
 
-  pub carries-out : {d : Deed} {u : Table} → pl .deed ≡ d → u ≡ acted changed d → u ≡ carriedOut t pl
+  pub carries-out : {d : RecordChange} {u : Table} → pl .records ≡ d → u ≡ withRecords changed d → u ≡ carriedOut t pl
   unfolding carriedOut
   carries-out k a = a ∙ rw (k, e, h)
 
 carried-heard : (t : Table) (m : List ℕ) (a : Asked) → carried t (senderOf a) (planHeard t m a) ≡ answeredTo t m a
-unfolding planHeard answeredTo carriedOut acted
+unfolding planHeard answeredTo carriedOut withRecords
 carried-heard t m (Unread n) = refl
 carried-heard t m (By path tag w) = refl
 

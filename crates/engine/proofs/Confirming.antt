@@ -19,14 +19,14 @@ use Rattle.table.specs.View.{at}
 use Rattle.table.specs.Promises.{Good}
 use Rattle.table.specs.declared.Table.{Table}
 use Rattle.table.proofs.Views.{live-at, spared, at-ended, altered-at, altered-other, pick-at}
-use Rattle.rules.specs.Rules.{seenOf}
+use Rattle.rules.specs.Rules.{lookupOf}
 use Rattle.plan.specs.Plans.{askedOf, isAwaited}
-use Rattle.plan.specs.declared.What.the-variants.{Confirm}
+use Rattle.plan.specs.declared.Request.the-variants.{Confirm}
 use Rattle.plan.specs.declared.Asked.the-variants.{By}
 use Rattle.plan.specs.declared.Plan.{Plan}
 use Rattle.plan.specs.declared.Answer.{Answer}
 use Rattle.plan.specs.declared.Answer.the-variants as answer
-use Rattle.engine.specs.Calls.{planAt, acted, carriedOut, messageOf, replied}
+use Rattle.engine.specs.Calls.{planAt, withRecords, carriedOut, messageOf, replied}
 use Rattle.engine.specs.Promises.{Awaited, ConfirmsItsOwn}
 use Rattle.engine.specs.declared.Outcome.{Outcome}
 use Rattle.engine.proofs.Outcomes.{each-message, each-confirm, left-by}
@@ -86,7 +86,7 @@ module _ (t : Table) (path tag offset : ℕ) where
 
     module _ (m : List ℕ) (complete : Bool) where
       plan-meant : Meant (planAt t m p tag (Confirm offset complete) .answer) (carriedOut t (planAt t m p tag (Confirm offset complete)))
-      unfolding planAt seenOf carriedOut acted
+      unfolding planAt lookupOf carriedOut withRecords
       plan-meant =
           each-confirm (λ (pl : Plan). Meant (pl .answer) (carriedOut t pl)) own p tag m offset complete tt tt
           (λ e. let w = awaited e in (own .at, own .task, w, ends w, ends-no-other w))

@@ -8,14 +8,14 @@ use Rattle.task.specs.Index.{first, some, all, mapOf, mapAt}
 use Rattle.task.specs.Map.{lowestFree, withBit}
 use Rattle.task.specs.Selections.{picks}
 use Rattle.task.specs.Scan.{considered, scanFrom}
-use Rattle.table.specs.Tables.{zeroTable, placeOf as pathPlace, anyLive, pickOf, hasRoom, accepted, endedBy, alteredAt, markedIn, attendedIn, alarmedIn, losersOf, acaClearedIn, finished}
+use Rattle.table.specs.Tables.{zeroTable, placeOf as pathPlace, anyLive, pickOf, hasRoom, accepted, endedBy, alteredAt, markedIn, attentionGoneIn, resetAttentionIn, othersOn, acaClearedIn, finished}
 use Rattle.table.specs.Setup.{badList, freshPaths, pathsOf, freshTable, setupTable}
 use Rattle.table.specs.Sound.{countOk, pathsDistinct, unusedZero, recordsOk, unitsOk, clashes, soundOf}
 use Rattle.rules.specs.First.{firstThat}
-use Rattle.rules.specs.Rules.{factsOf, seenOf, resumesUnmarked, missesResume, contradicts, barred, stray, passesAttention, resetPending, clearedPending, roomRules, fieldRules, unitRules, blockRules, commandRules}
+use Rattle.rules.specs.Rules.{factsOf, lookupOf, resumesUnmarked, missesResume, contradicts, keptOutByAca, acaKindWithoutAca, passesAttention, resetToReport, clearedToReport, roomRules, fieldRules, unitRules, blockRules, commandRules}
 use Rattle.rules.specs.Management.{orderCode}
 use Rattle.plan.specs.Plans.{orderPlan, confirmPlan}
-use Rattle.engine.specs.Calls.{heardOf, planAt, planFor, acted, carriedOut, answeredTo, messageOf, choiceOn, startVerdict, startOf, finishVerdict, finishOf, setupOf, replied}
+use Rattle.engine.specs.Calls.{heardOf, planAt, planFor, withRecords, carriedOut, answeredTo, messageOf, choiceOn, startVerdict, startOf, finishVerdict, finishOf, setupOf, replied}
 use Rattle.engine.specs.Examples.{quiet, tasksFrom, full, examples, waits, underway, unconfirmed, again8, confirmations, shared, orders, ExamplesHold, WorkedCalls, ConfirmationsHold, ConfirmedCalls, OrdersEnd}
 
 -- the definitions that these are computed by: of messages and replies, of tasks and tables, of rules, orders and plans, of the calls and the examples
@@ -24,15 +24,15 @@ unfolding placeOf fieldsOf readOf commandReserved confirmReserved reservedSet cu
 bytes = tt
 
 unfoldable tables : Unit {0}
-unfolding first some all mapOf mapAt lowestFree withBit picks considered scanFrom zeroTable pathPlace anyLive pickOf hasRoom accepted endedBy alteredAt markedIn attendedIn alarmedIn losersOf acaClearedIn finished badList freshPaths pathsOf freshTable setupTable countOk pathsDistinct unusedZero recordsOk unitsOk clashes soundOf
+unfolding first some all mapOf mapAt lowestFree withBit picks considered scanFrom zeroTable pathPlace anyLive pickOf hasRoom accepted endedBy alteredAt markedIn attentionGoneIn resetAttentionIn othersOn acaClearedIn finished badList freshPaths pathsOf freshTable setupTable countOk pathsDistinct unusedZero recordsOk unitsOk clashes soundOf
 tables = tt
 
 unfoldable answers : Unit {0}
-unfolding firstThat factsOf seenOf resumesUnmarked missesResume contradicts barred stray passesAttention resetPending clearedPending roomRules fieldRules unitRules blockRules commandRules orderCode orderPlan confirmPlan
+unfolding firstThat factsOf lookupOf resumesUnmarked missesResume contradicts keptOutByAca acaKindWithoutAca passesAttention resetToReport clearedToReport roomRules fieldRules unitRules blockRules commandRules orderCode orderPlan confirmPlan
 answers = tt
 
 unfoldable calls : Unit {0}
-unfolding heardOf planAt planFor acted carriedOut answeredTo messageOf choiceOn startVerdict startOf finishVerdict finishOf setupOf replied quiet tasksFrom full examples waits underway unconfirmed again8 confirmations shared orders
+unfolding heardOf planAt planFor withRecords carriedOut answeredTo messageOf choiceOn startVerdict startOf finishVerdict finishOf setupOf replied quiet tasksFrom full examples waits underway unconfirmed again8 confirmations shared orders
 calls = tt
 
 unfoldable computing : Unit {0}

@@ -19,30 +19,30 @@ use Rattle.task.specs.declared.select.Place.the-variants.{Anywhere, On}
 use Rattle.task.proofs.Ways.{never, cond-ind, both}
 use Rattle.task.proofs.Places.{first-picks}
 use Rattle.task.proofs.Selecting.{meets, picks-every, picks-on, picks-aca-on, picks-aca-from-on}
-use Rattle.table.specs.Tables.{placeOf, pathOf, unitAt, taskAt, anyLive, pickOf, hasRoom, withPaths, endedBy, markedIn, alarmedIn}
+use Rattle.table.specs.Tables.{placeOf, pathOf, unitAt, taskAt, anyLive, pickOf, hasRoom, withPaths, endedBy, markedIn, resetAttentionIn}
 use Rattle.table.specs.Sound.{Shaped, ownedBy}
 use Rattle.table.specs.Promises.{Good, MayCome}
 use Rattle.table.specs.declared.Aca.{Aca}
 use Rattle.table.specs.declared.Aca.the-variants.{Clear, Owned}
 use Rattle.table.specs.declared.Table.{Table}
 use Rattle.table.proofs.Views.{live-at, pick-at, any-is-found, none-left}
-use Rattle.table.proofs.Keeps.{accept-keeps, may-come as paths-may-come, end-keeps, start-keeps as start-task-keeps, restart-keeps, clear-keeps, mark-keeps, attend-keeps, alarm-keeps, warn-keeps, finish-keeps as finish-task-keeps, reset-keeps as reset-table-keeps, setup-is-good as setup-table-is-good}
-use Rattle.rules.specs.Rules.{hasAca, factsOf, seenOf, asksAca, barred, stray, roomRules, fieldRules, unitRules, blockRules, commandRules, accepts, deciding}
+use Rattle.table.proofs.Keeps.{accept-keeps, may-come as paths-may-come, end-keeps, start-keeps as start-task-keeps, restart-keeps, clear-keeps, mark-keeps, attention-gone-keeps, reset-attention-keeps, cleared-attention-keeps, finish-keeps as finish-task-keeps, reset-keeps as reset-table-keeps, setup-is-good as setup-table-is-good}
+use Rattle.rules.specs.Rules.{hasAca, factsOf, lookupOf, asksAca, keptOutByAca, acaKindWithoutAca, roomRules, fieldRules, unitRules, blockRules, commandRules, accepts, deciding}
 use Rattle.rules.specs.Management.{endsOf, tagOf, unitOf, isClearSet, orderCode}
 use Rattle.rules.specs.declared.rules.Facts.{Facts}
-use Rattle.rules.specs.declared.rules.Mood.{Mood}
-use Rattle.rules.specs.declared.rules.Mood.the-variants.{Stay, Mark, Unmark, Attend}
+use Rattle.rules.specs.declared.rules.SenderChange.{SenderChange}
+use Rattle.rules.specs.declared.rules.SenderChange.the-variants.{Stays, SetMark, ClearMark, ClearMarkAndAttention}
 use Rattle.rules.specs.declared.rules.Ruling.{Ruling}
 use Rattle.rules.specs.declared.rules.Ruling.the-variants.{Refuse, Respond, Report, Invalid, Accept}
 use Rattle.rules.specs.declared.manage.Order.{Order}
 use Rattle.rules.specs.declared.manage.Order.the-variants.{AbortTask, AbortTaskSet, ClearTaskSet, ClearAca, UnitReset, TargetReset}
 use Rattle.rules.proofs.Entries.{everyGives, appliesAt, passed}
-use Rattle.plan.specs.Plans.{kindOf, ruled, orderPlan, inMood}
-use Rattle.plan.specs.declared.What.{What}
-use Rattle.plan.specs.declared.What.the-variants.{Command, Manage, Confirm}
+use Rattle.plan.specs.Plans.{kindOf, ruled, orderPlan, senderAfter}
+use Rattle.plan.specs.declared.Request.{Request}
+use Rattle.plan.specs.declared.Request.the-variants.{Command, Manage, Confirm}
 use Rattle.plan.specs.declared.Change.the-variants as change
 use Rattle.plan.specs.declared.Plan.{Plan}
-use Rattle.engine.specs.Calls.{withParts, planAt, acted, carriedOut, choiceOn, setupOf}
+use Rattle.engine.specs.Calls.{withParts, planAt, withRecords, carriedOut, choiceOn, setupOf}
 use Rattle.engine.specs.Promises.{MessageKeeps, StartKeeps, FinishKeeps, ResetKeeps, SetupIsGood}
 use Rattle.engine.specs.declared.Outcome.{Outcome}
 use Rattle.engine.proofs.Outcomes.{each-message, each-start, each-finish, each-reset, each-confirm}
@@ -68,8 +68,8 @@ aca-asked q = cases (eqb (q .0) (Paper.queueAca .0)) (eqb (q .0) (Paper.queueHea
     cases false false false e = e
 
 -- rule 7, for kind ACA
-owner-alone : (f : Facts) (g : Flags) → asksAca g ≡ true → barred f g ≡ false → stray f g ≡ false → (f .owned ≡ true) × (f .busy ≡ false)
-unfolding barred stray
+owner-alone : (f : Facts) (g : Flags) → asksAca g ≡ true → keptOutByAca f g ≡ false → acaKindWithoutAca f g ≡ false → (f .owned ≡ true) × (f .busy ≡ false)
+unfolding keptOutByAca acaKindWithoutAca
 owner-alone f g = cases (f .aca) (f .owned) (asksAca g) (f .busy)
   where
     cases : (aca owned asks busy : Bool) → asks ≡ true → (aca && not (owned && (asks && not busy))) ≡ false → (not aca && asks) ≡ false → (owned ≡ true) × (busy ≡ false)
@@ -148,21 +148,21 @@ module _ (t : Table) (g : Good t) where
 -- ---- the calls
 
 module _ (t : Table) (g : Good t) (p : ℕ) (l : p < t .count) where
-  mood-keeps : (mood : Mood) → Good (withPaths t (inMood (t .paths) p mood))
-  mood-keeps Stay = g
-  mood-keeps Mark = mark-keeps t p true g l
-  mood-keeps Unmark = mark-keeps t p false g l
-  mood-keeps Attend = attend-keeps (withPaths t (markedIn (t .paths) p false)) p (mark-keeps t p false g l) l
+  mood-keeps : (sender : SenderChange) → Good (withPaths t (senderAfter (t .paths) p sender))
+  mood-keeps Stays = g
+  mood-keeps SetMark = mark-keeps t p true g l
+  mood-keeps ClearMark = mark-keeps t p false g l
+  mood-keeps ClearMarkAndAttention = attention-gone-keeps (withPaths t (markedIn (t .paths) p false)) p (mark-keeps t p false g l) l
 
   ruling-keeps : (next tag lun : ℕ) (flags : Flags) (r : Ruling) → (r ≡ Accept → MayCome t p tag lun (kindOf (flags .queue)))
       → Good (carriedOut t (ruled next p tag lun flags r))
-  unfolding carriedOut acted
+  unfolding carriedOut withRecords
   ruling-keeps next tag lun flags (Refuse n) c = g
-  ruling-keeps next tag lun flags (Respond code mood) c = mood-keeps mood
-  ruling-keeps next tag lun flags (Report status sense mood) c = mood-keeps mood
-  ruling-keeps next tag lun flags (Invalid mood) c = mood-keeps mood
+  ruling-keeps next tag lun flags (Respond code sender) c = mood-keeps sender
+  ruling-keeps next tag lun flags (Report status sense sender) c = mood-keeps sender
+  ruling-keeps next tag lun flags (Invalid sender) c = mood-keeps sender
   ruling-keeps next tag lun flags Accept c =
-      let l = inMood (t .paths) p Unmark in accept-keeps (withPaths t l) p tag lun _ (flags .confirm) (mood-keeps Unmark) (paths-may-come l (c refl))
+      let l = senderAfter (t .paths) p ClearMark in accept-keeps (withPaths t l) p tag lun _ (flags .confirm) (mood-keeps ClearMark) (paths-may-come l (c refl))
 
   -- what an order asks of the table
   abbrev asked : Order → Facts
@@ -170,17 +170,17 @@ module _ (t : Table) (g : Good t) (p : ℕ) (l : p < t .count) where
 
   -- a reset alarms the paths
   abbrev alarmed : Table
-  alarmed = withPaths t (alarmedIn (t .paths) (t .count) false)
+  alarmed = withPaths t (resetAttentionIn (t .paths) (t .count) false)
 
   alarmed-good : Good alarmed
-  alarmed-good = alarm-keeps t false g
+  alarmed-good = reset-attention-keeps t false g
 
   -- an order that is carried out. To end tasks first and then take an ACA comes to the same table
-  done-keeps : (m : List ℕ) (o : Order) → orderCode (asked o) m o .0 ≡ 0 → Good (endedBy (withParts t (change.Besides (asked o .losers) o)) (endsOf p o))
+  done-keeps : (m : List ℕ) (o : Order) → orderCode (asked o) m o .0 ≡ 0 → Good (endedBy (withParts t (change.ByOrder (asked o .others) o)) (endsOf p o))
   unfolding endedBy factsOf
   done-keeps m (AbortTask tag2) e = end-keeps t _ g
   done-keeps m (AbortTaskSet lun) e = end-keeps t _ g
-  done-keeps m (ClearTaskSet lun) e = end-keeps _ _ (warn-keeps t lun p g)
+  done-keeps m (ClearTaskSet lun) e = end-keeps _ _ (cleared-attention-keeps t lun p g)
   done-keeps m (ClearAca lun) e =
       clear-keeps (endedBy t (acaFromOn p lun)) (On lun) (end-keeps t _ g) (none-owned t g p lun (owner-clears (asked (ClearAca lun)) m lun e))
   done-keeps m (UnitReset lun) e =
@@ -188,8 +188,8 @@ module _ (t : Table) (g : Good t) (p : ℕ) (l : p < t .count) where
   done-keeps m TargetReset e =
       clear-keeps (endedBy alarmed everyTask) Anywhere (end-keeps alarmed _ alarmed-good) (none-anywhere alarmed alarmed-good)
 
-  plan-keeps : (m : List ℕ) (tag : ℕ) (w : What) → Good (carriedOut t (planAt t m p tag w))
-  unfolding carriedOut acted planAt seenOf orderPlan
+  plan-keeps : (m : List ℕ) (tag : ℕ) (w : Request) → Good (carriedOut t (planAt t m p tag w))
+  unfolding carriedOut withRecords planAt lookupOf orderPlan
   plan-keeps m tag (Command lun flags) = ruling-keeps (t .next) tag lun flags _ (λ e. may-come t p tag lun flags m e (g .shaped) l)
   plan-keeps m tag (Manage o) =
       cond-ind (λ (pl : Plan). Good (carriedOut t pl)) (eqb (orderCode (asked o) m o .0) (Paper.done .0)) (λ e. done-keeps m o (eqb-true _ _ e)) (λ _. g)

@@ -18,15 +18,15 @@ use Rattle.table.specs.Sound.{soundOf}
 use Rattle.table.specs.declared.Table.{Table}
 use Rattle.table.proofs.Views.{altered-none, finished-none}
 use Rattle.plan.specs.Plans.{askedOf, planned, refusing, isAwaited, confirmPlan}
-use Rattle.plan.specs.declared.What.{What}
+use Rattle.plan.specs.declared.Request.{Request}
 use Rattle.plan.specs.declared.Asked.{Asked}
 use Rattle.plan.specs.declared.Asked.the-variants.{By, Unread}
 use Rattle.plan.specs.declared.Change.the-variants as change
-use Rattle.plan.specs.declared.Deed.the-variants as deed
+use Rattle.plan.specs.declared.RecordChange.the-variants as records
 use Rattle.plan.specs.declared.Plan.{Plan}
 use Rattle.plan.specs.declared.Answer.{Answer}
 use Rattle.plan.specs.declared.Answer.the-variants as answer
-use Rattle.engine.specs.Calls.{out, refused, heardOf, planAt, planFor, acted, carriedOut, carried, answeredTo, messageOf, rejected, settled, choiceOn, startVerdict, startOf, mayFinish, sentSense, runningTask, failed, finishVerdict, finishOf, totalResetOf, replied, Answers}
+use Rattle.engine.specs.Calls.{out, refused, heardOf, planAt, planFor, withRecords, carriedOut, carried, answeredTo, messageOf, rejected, settled, choiceOn, startVerdict, startOf, mayFinish, sentSense, runningTask, failed, finishVerdict, finishOf, totalResetOf, replied, Answers}
 use Rattle.engine.specs.declared.Outcome.{Outcome}
 use Rattle.engine.specs.declared.calls.Verdict.{Verdict}
 
@@ -34,13 +34,13 @@ module _ (P : Outcome → Type 0) (t : Table) (stops : (n : Refusal) → P (refu
   -- a message: refused, or the plan for what a listed path asks is carried out
   module _ (m : List ℕ) where
     abbrev pub Carried : Type 0
-    Carried = (path tag : ℕ) (w : What) → askedOf (readOf m) ≡ By path tag w → pathOf t path < 8 → P (carried t path (planAt t m (pathOf t path) tag w))
+    Carried = (path tag : ℕ) (w : Request) → askedOf (readOf m) ≡ By path tag w → pathOf t path < 8 → P (carried t path (planAt t m (pathOf t path) tag w))
 
     abbrev Answered : Asked → Type 0
     Answered a = P (answeredTo t m a)
 
     asked : Carried → (a : Asked) → askedOf (readOf m) ≡ a → Answered a
-    unfolding answeredTo planFor carriedOut acted
+    unfolding answeredTo planFor carriedOut withRecords
     asked goes (Unread n) e = stops n
     asked goes (By path tag w) e =
         cond-ind (λ (pl : Plan). P (carried t path pl)) (ltb (pathOf t path) 8) (λ l. goes path tag w e (ltb-true _ 8 l)) (λ _. stops Paper.unknownPath)
@@ -96,10 +96,10 @@ module _ (P : Outcome → Type 0) (t : Table) (stops : (n : Refusal) → P (refu
 
 -- a confirmation: FFh, or 15, or the task that waits to be confirmed ends, or it waits again at an offset within the bytes transferred
 module _ (P : Plan → Type 0) (own : Pick) (p tag : ℕ) (m : List ℕ) (offset : ℕ) (complete : Bool) where
-  pub each-confirm : P (planned (answer.Response tag Paper.invalidField) change.Nothing deed.Nothing) → P (refusing Paper.nothingToConfirm)
-      → (isAwaited own ≡ true → P (planned (answer.Confirmed (own .task .arrival)) change.Nothing (deed.End (numberedAs (own .task .arrival) p tag))))
+  pub each-confirm : P (planned (answer.Response tag Paper.invalidField) change.Nothing records.Nothing) → P (refusing Paper.nothingToConfirm)
+      → (isAwaited own ≡ true → P (planned (answer.Confirmed (own .task .arrival)) change.Nothing (records.End (numberedAs (own .task .arrival) p tag))))
       → (isAwaited own ≡ true → offset ≤ own .task .transferred
-      → P (planned (answer.Restarted (own .task .arrival)) change.Nothing (deed.Restart (own .at) offset)))
+      → P (planned (answer.Restarted (own .task .arrival)) change.Nothing (records.Restart (own .at) offset)))
       → P (confirmPlan own p tag m offset complete)
   unfolding confirmPlan
   each-confirm bad none ends again =

@@ -18,18 +18,18 @@ use Rattle.task.proofs.Next.{scan-is-next}
 use Rattle.table.specs.Tables.{zeroTable, pathOf, unitAt, pickOf}
 use Rattle.table.specs.Setup.{badList, setupTable}
 use Rattle.table.specs.declared.Table.{Table}
-use Rattle.rules.specs.Rules.{seenOf, deciding}
-use Rattle.rules.specs.declared.rules.Seen.{Seen}
+use Rattle.rules.specs.Rules.{lookupOf, deciding}
+use Rattle.rules.specs.declared.rules.Lookup.{Lookup}
 use Rattle.rules.specs.declared.rules.Ruling.{Ruling}
 use Rattle.rules.specs.declared.rules.Ruling.the-variants.{Refuse, Respond, Report, Invalid, Accept}
 use Rattle.plan.specs.Plans.{ruled, planOf}
-use Rattle.plan.specs.declared.What.{What}
-use Rattle.plan.specs.declared.What.the-variants.{Command, Manage, Confirm}
+use Rattle.plan.specs.declared.Request.{Request}
+use Rattle.plan.specs.declared.Request.the-variants.{Command, Manage, Confirm}
 use Rattle.plan.specs.declared.Plan.{Plan}
 use Rattle.plan.specs.declared.Answer.{Answer}
 use Rattle.plan.specs.declared.Answer.the-variants as answer
 use Rattle.plan.proofs.Promises.{order-answer}
-use Rattle.engine.specs.Calls.{planAt, acted, carriedOut, messageOf, mayGo, choiceOn, setupOf, replied, Answers, handedOver}
+use Rattle.engine.specs.Calls.{planAt, withRecords, carriedOut, messageOf, mayGo, choiceOn, setupOf, replied, Answers, handedOver}
 use Rattle.engine.specs.Promises.{MessageRefusals, FinishRefusals, StartRefusals, ResetRefusals, SetupRefusals, AcceptedIsWhole, Goes, StartsNext}
 use Rattle.engine.specs.declared.Outcome.{Outcome}
 use Rattle.engine.proofs.Outcomes.{each-message, each-start, each-finish, each-reset, each-confirm, left-by}
@@ -67,15 +67,15 @@ abbrev PlanKept : Table → Plan → Type 0
 PlanKept t pl = Stays t (pl .answer) (carriedOut t pl)
 
 ruling-kept : (t : Table) (next p tag lun : ℕ) (flags : Flags) (r : Ruling) → PlanKept t (ruled next p tag lun flags r)
-unfolding carriedOut acted
+unfolding carriedOut withRecords
 ruling-kept t next p tag lun flags (Refuse k) = λ _ _. refl
-ruling-kept t next p tag lun flags (Respond code mood) = no-refusal refl
-ruling-kept t next p tag lun flags (Report status sense mood) = no-refusal refl
-ruling-kept t next p tag lun flags (Invalid mood) = no-refusal refl
+ruling-kept t next p tag lun flags (Respond code sender) = no-refusal refl
+ruling-kept t next p tag lun flags (Report status sense sender) = no-refusal refl
+ruling-kept t next p tag lun flags (Invalid sender) = no-refusal refl
 ruling-kept t next p tag lun flags Accept = no-refusal refl
 
-plan-kept : (t : Table) (s : Seen) (next p tag : ℕ) (m : List ℕ) (w : What) → PlanKept t (planOf s next p tag m w)
-unfolding carriedOut acted
+plan-kept : (t : Table) (s : Lookup) (next p tag : ℕ) (m : List ℕ) (w : Request) → PlanKept t (planOf s next p tag m w)
+unfolding carriedOut withRecords
 plan-kept t s next p tag m (Command lun flags) = ruling-kept t next p tag lun flags (deciding (s .facts) flags m .gives)
 plan-kept t s next p tag m (Manage o) = no-refusal (ap (λ (a : Answer). eqb (sortOf a) 9) (order-answer (s .facts) p tag m o))
 plan-kept t s next p tag m (Confirm offset complete) =
@@ -117,20 +117,20 @@ setup-refusals ids attached first o n e = as-defined (zero (badList ids) _) e n
 
 accepts-only : (next p tag lun arrival : ℕ) (flags : Flags) (r : Ruling) → ruled next p tag lun flags r .answer ≡ answer.Accepted arrival → r ≡ Accept
 accepts-only next p tag lun arrival flags (Refuse n) e = unlike refl e
-accepts-only next p tag lun arrival flags (Respond code mood) e = unlike refl e
-accepts-only next p tag lun arrival flags (Report status sense mood) e = unlike refl e
-accepts-only next p tag lun arrival flags (Invalid mood) e = unlike refl e
+accepts-only next p tag lun arrival flags (Respond code sender) e = unlike refl e
+accepts-only next p tag lun arrival flags (Report status sense sender) e = unlike refl e
+accepts-only next p tag lun arrival flags (Invalid sender) e = unlike refl e
 accepts-only next p tag lun arrival flags Accept e = refl
 
 abbrev Whole : List ℕ → Type 0
 Whole m = (cutShort m ≡ false) × (noBlock m ≡ false)
 
 message-whole : (t : Table) (m : List ℕ) (n arrival : ℕ) → messageOf t m n .answer ≡ answer.Accepted arrival → Whole m
-unfolding planAt seenOf
+unfolding planAt lookupOf
 message-whole t m n arrival =
     each-message (λ (o : Outcome). o .answer ≡ answer.Accepted arrival → Whole m) t (λ _. unlike refl) m (λ path tag w _ _. asked (pathOf t path) tag w) n
   where
-    asked : (p tag : ℕ) (w : What) → planAt t m p tag w .answer ≡ answer.Accepted arrival → Whole m
+    asked : (p tag : ℕ) (w : Request) → planAt t m p tag w .answer ≡ answer.Accepted arrival → Whole m
     asked p tag (Command lun flags) e = accept-is-whole t p tag lun flags m (accepts-only (t .next) p tag lun arrival flags _ e)
     asked p tag (Manage o) e = unlike refl (sym (order-answer _ p tag m o) ∙ e)
     asked p tag (Confirm offset complete) e =

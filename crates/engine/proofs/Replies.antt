@@ -25,20 +25,20 @@ use Rattle.table.specs.declared.Table.{Table}
 use Rattle.rules.specs.Rules.{roomRules, fieldRules, unitRules, blockRules, accepts, commandRules, deciding}
 use Rattle.rules.specs.Management.{hasUnit, carriedCode, orderCode}
 use Rattle.rules.specs.declared.rules.Facts.{Facts}
-use Rattle.rules.specs.declared.rules.Seen.{Seen}
+use Rattle.rules.specs.declared.rules.Lookup.{Lookup}
 use Rattle.rules.specs.declared.rules.Ruling.{Ruling}
 use Rattle.rules.specs.declared.manage.Order.{Order}
 use Rattle.rules.specs.declared.manage.Order.the-variants as order
 use Rattle.rules.proofs.Entries.{everyGives, given-meets}
 use Rattle.plan.specs.Plans.{ruled, planOf}
-use Rattle.plan.specs.declared.What.{What}
-use Rattle.plan.specs.declared.What.the-variants.{Command, Manage, Confirm}
+use Rattle.plan.specs.declared.Request.{Request}
+use Rattle.plan.specs.declared.Request.the-variants.{Command, Manage, Confirm}
 use Rattle.plan.specs.declared.Plan.{Plan}
 use Rattle.plan.specs.declared.Answer.{Answer}
 use Rattle.plan.specs.declared.Answer.the-variants as answer
 use Rattle.plan.proofs.Promises.{order-answer}
 use Rattle.engine.specs.Calls.{refused, planAt, mayFinish, sentSense, replied, Answers}
-use Rattle.engine.specs.Promises.{replyOf, Written, RepliesAreWritten}
+use Rattle.engine.specs.Promises.{replyOf, ReplyWritten, RepliesAreWritten}
 use Rattle.engine.specs.declared.Outcome.{Outcome}
 use Rattle.engine.proofs.Outcomes.{each-heard, each-sent, each-confirm}
 
@@ -77,7 +77,7 @@ module _ (tag : ℕ) where
       cond-ind CodeFits (reservedSet m) (λ _. refl)
       (λ _. cond-ind CodeFits (hasUnit o && not (f .attached)) (λ _. refl) (λ _. carried-fits f o))
 
-plan-fits : (s : Seen) (next p tag : ℕ) (m : List ℕ) (w : What) → Fits (planOf s next p tag m w .answer)
+plan-fits : (s : Lookup) (next p tag : ℕ) (m : List ℕ) (w : Request) → Fits (planOf s next p tag m w .answer)
 unfolding writableOf
 plan-fits s next p tag m (Command lun flags) = ruling-fits (s .facts) next p tag m lun flags
 plan-fits s next p tag m (Manage o) = ap (λ (a : Answer). fits (replyOf a)) (order-answer (s .facts) p tag m o) ∙ code-fits tag (s .facts) m o
@@ -119,7 +119,7 @@ replied-by (answer.Restarted n) buf = refl
 replied-by answer.Reset buf = refl
 replied-by (answer.Refused n) buf = refl
 
-written : (a : Answer) (buf : List ℕ) (r : Reply) → Paper.replyRoom ≤ length buf → Fits a → replyOf a ≡ some r → Written r buf (replied a buf)
+written : (a : Answer) (buf : List ℕ) (r : Reply) → Paper.replyRoom ≤ length buf → Fits a → replyOf a ≡ some r → ReplyWritten r buf (replied a buf)
 unfolding leftOf
 written a buf r l f e =
     let w : writableOf r ≡ true = sym (ap fits e) ∙ f in
@@ -127,12 +127,12 @@ written a buf r l f e =
 
 -- what a call's outcome has to be for that
 abbrev Sends : List ℕ → Outcome → Type 0
-Sends buf o = (r : Reply) → replyOf (o .answer) ≡ some r → Written r buf (replied (o .answer) buf)
+Sends buf o = (r : Reply) → replyOf (o .answer) ≡ some r → ReplyWritten r buf (replied (o .answer) buf)
 
 refusal-sends : (buf : List ℕ) (t : Table) (n : Refusal) → Sends buf (refused t n)
 refusal-sends buf t n r e = let z : _≡_ {A = ℕ} 0 1 = cc in absurd (omega arith)
 
-by-contract : {defined o : Outcome} (buf : List ℕ) {left : List ℕ} (r : Reply) → Sends buf defined → Answers defined buf o left → replyOf (o .answer) ≡ some r → Written r buf left
+by-contract : {defined o : Outcome} (buf : List ℕ) {left : List ℕ} (r : Reply) → Sends buf defined → Answers defined buf o left → replyOf (o .answer) ≡ some r → ReplyWritten r buf left
 by-contract buf r sends x e = rw (x .buffer) (sends r (rw (x .outcome) at e))
 
 pub replies-are-written : RepliesAreWritten

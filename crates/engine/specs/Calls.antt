@@ -21,15 +21,15 @@ use Rattle.table.specs.Setup.{badList, setupTable}
 use Rattle.table.specs.Sound.{soundOf}
 use Rattle.table.specs.declared.Table.{Table}
 use Rattle.table.specs.declared.Aca.{Aca}
-use Rattle.rules.specs.Rules.{hasAca, seenOf}
-use Rattle.rules.specs.declared.rules.Seen.{Seen}
+use Rattle.rules.specs.Rules.{hasAca, lookupOf}
+use Rattle.rules.specs.declared.rules.Lookup.{Lookup}
 use Rattle.plan.specs.Plans.{askedOf, tagAsked, unitAsked, clearsSet, refusing, planOf, pathsAfter, unitsAfter}
-use Rattle.plan.specs.declared.What.{What}
+use Rattle.plan.specs.declared.Request.{Request}
 use Rattle.plan.specs.declared.Asked.{Asked}
 use Rattle.plan.specs.declared.Asked.the-variants.{By, Unread}
 use Rattle.plan.specs.declared.Change.{Change}
-use Rattle.plan.specs.declared.Deed.{Deed}
-use Rattle.plan.specs.declared.Deed.the-variants as deed
+use Rattle.plan.specs.declared.RecordChange.{RecordChange}
+use Rattle.plan.specs.declared.RecordChange.the-variants as records
 use Rattle.plan.specs.declared.Plan.{Plan}
 use Rattle.plan.specs.declared.Answer.{Answer}
 use Rattle.plan.specs.declared.Answer.the-variants as answer
@@ -57,14 +57,14 @@ senderOf (Unread n) = 0
 senderOf (By path tag w) = path
 
 -- what is to be seen of the table for what the path at p asks, and the plan for it
-abbrev pub seenFor : Table → ℕ → ℕ → What → Seen
-seenFor t p tag w = seenOf t p (tagAsked tag w) (unitAsked w) (clearsSet w)
+abbrev pub lookupFor : Table → ℕ → ℕ → Request → Lookup
+lookupFor t p tag w = lookupOf t p (tagAsked tag w) (unitAsked w) (clearsSet w)
 
-unfoldable pub planAt : Table → List ℕ → ℕ → ℕ → What → Plan
-planAt t m p tag w = planOf (seenFor t p tag w) (t .next) p tag m w
+unfoldable pub planAt : Table → List ℕ → ℕ → ℕ → Request → Plan
+planAt t m p tag w = planOf (lookupFor t p tag w) (t .next) p tag m w
 
 -- the plan for what the path with an id asks: 3 where it is not listed
-unfoldable pub planFor : Table → List ℕ → ℕ → ℕ → What → Plan
+unfoldable pub planFor : Table → List ℕ → ℕ → ℕ → Request → Plan
 planFor t m path tag w = cond (ltb (pathOf t path) 8) (planAt t m (pathOf t path) tag w) (refusing Paper.unknownPath)
 
 -- a plan carried out: paths and units, then the records
@@ -79,14 +79,14 @@ withParts t c = record {
   tasks = t .tasks;
 }
 
-unfoldable pub acted : Table → Deed → Table
-acted t deed.Nothing = t
-acted t (deed.Accept path tag lun kind confirm) = accepted t path tag lun kind confirm
-acted t (deed.End s) = endedBy t s
-acted t (deed.Restart place offset) = restarted t place offset
+unfoldable pub withRecords : Table → RecordChange → Table
+withRecords t records.Nothing = t
+withRecords t (records.Accept path tag lun kind confirm) = accepted t path tag lun kind confirm
+withRecords t (records.End s) = endedBy t s
+withRecords t (records.Restart place offset) = restarted t place offset
 
 unfoldable pub carriedOut : Table → Plan → Table
-carriedOut t pl = acted (withParts t (pl .change)) (pl .deed)
+carriedOut t pl = withRecords (withParts t (pl .change)) (pl .records)
 
 -- the path that a reply goes to, and 0 where the answer is none
 abbrev pub replyPath : Answer → ℕ → ℕ

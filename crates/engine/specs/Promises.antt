@@ -26,7 +26,7 @@ use Rattle.table.specs.View.{at}
 use Rattle.table.specs.Promises.{Good}
 use Rattle.table.specs.declared.Table.{Table}
 use Rattle.plan.specs.Plans.{askedOf}
-use Rattle.plan.specs.declared.What.the-variants.{Confirm}
+use Rattle.plan.specs.declared.Request.the-variants.{Confirm}
 use Rattle.plan.specs.declared.Asked.the-variants.{By}
 use Rattle.plan.specs.declared.Answer.{Answer}
 use Rattle.plan.specs.declared.Answer.the-variants as answer
@@ -68,7 +68,7 @@ replyOf answer.Reset = none
 replyOf (answer.Refused n) = none
 
 -- r is one that the engine can write, no longer than 64 bytes; its bytes stand at the front of the buffer, and those after it keep their values
-pub record Written (r : Reply) (buf left : List ℕ) : Type 0 where
+pub record ReplyWritten (r : Reply) (buf left : List ℕ) : Type 0 where
   pub writable : writableOf r ≡ true
   pub no-longer : length (bytesOf r) ≤ replyRoom
   pub in-front : left ≡ placed (bytesOf r) buf
@@ -77,9 +77,9 @@ pub record Written (r : Reply) (buf left : List ℕ) : Type 0 where
 -- RETURN CODE FFh with 00h alone, and no reply is left unwritten
 pub record RepliesAreWritten : Type 0 where
   pub message : (t : Table) (m buf : List ℕ) (o : Outcome) (left : List ℕ) (r : Reply)
-      → Answers (messageOf t m (length buf)) buf o left → replyOf (o .answer) ≡ some r → Written r buf left
+      → Answers (messageOf t m (length buf)) buf o left → replyOf (o .answer) ≡ some r → ReplyWritten r buf left
   pub finish : (t : Table) (arrival : ℕ) (status : StatusByte) (s : Sense) (transferred : ℕ) (buf : List ℕ) (o : Outcome) (left : List ℕ) (r : Reply)
-      → Answers (finishOf t arrival status s transferred (length buf)) buf o left → replyOf (o .answer) ≡ some r → Written r buf left
+      → Answers (finishOf t arrival status s transferred (length buf)) buf o left → replyOf (o .answer) ≡ some r → ReplyWritten r buf left
 
 -- ---- what an accepted command and a start come to
 

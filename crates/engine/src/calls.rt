@@ -11,12 +11,12 @@ ghost use Rattle.task.specs.Selections.{runningOn};
 use crate::Outcome;
 use plan::Answer;
 use plan::Asked;
-use plan::Deed;
+use plan::RecordChange;
 use plan::Plan;
-use plan::What;
+use plan::Request;
 use reply::Reply;
-use rules::rules::Seen;
-use rules::rules::look;
+use rules::rules::Lookup;
+use rules::rules::look_up;
 use table::Aca;
 use table::RECORDS;
 use table::Table;
@@ -79,7 +79,7 @@ fn sender_of(a: Asked) -> u32
         Asked::By {
             path,
             tag: _,
-            what: _,
+            request: _,
         } => path,
     }
 }
@@ -112,7 +112,7 @@ fn reply_to(a: Answer, reply: &mut [u8])
 }
 
 // The plan for what the path at p asks: refusal 3 where it is not listed, then by rules, orders and confirmations.
-fn plan_for(s: Seen, next: u64, p: u8, tag: u16, m: &[u8], w: What) -> Plan
+fn plan_for(s: Lookup, next: u64, p: u8, tag: u16, m: &[u8], w: Request) -> Plan
     ensures { λ r. ⌜ r ≡ cond (ltb p 8) (planOf s next p tag (now (m .entry)) w) (refusing Paper.unknownPath) ⌝ }
 {
     if p >= 8 {
@@ -129,33 +129,33 @@ pub fn message(mut t: Table, m: &[u8], reply: &mut [u8]) -> Outcome
     let asked = heard(t.sound(), reply.len(), m);
     let plan = match asked {
         Asked::Unread(n) => plan::refuse(n),
-        Asked::By { path, tag, what } => {
+        Asked::By { path, tag, request } => {
             let p = t.path_of(path);
-            let named = plan::tag_asked(tag, what);
-            let seen = look(t, p, named, plan::unit_asked(what), plan::clears_set(what));
-            plan_for(seen, t.next, p, tag, m, what)
+            let named = plan::tag_asked(tag, request);
+            let lookup = look_up(t, p, named, plan::unit_asked(request), plan::clears_set(request));
+            plan_for(lookup, t.next, p, tag, m, request)
         }
     };
     let answer = plan.answer;
     let change = plan.change;
-    let deed = plan.deed;
+    let records = plan.records;
     let paths = t.paths;
-    let after = plan::change_paths(paths, t.count, change);
-    t.paths = after;
+    let changed_paths = plan::change_paths(paths, t.count, change);
+    t.paths = changed_paths;
     let units = t.units;
-    let free = plan::change_units(units, change);
-    t.units = free;
-    match deed {
-        Deed::Nothing => {}
-        Deed::Accept {
+    let changed_units = plan::change_units(units, change);
+    t.units = changed_units;
+    match records {
+        RecordChange::Nothing => {}
+        RecordChange::Accept {
             path,
             tag,
             lun,
             kind,
             confirm,
         } => t = t.accept(path, tag, lun, kind, confirm),
-        Deed::End(s) => t = t.end(s),
-        Deed::Restart { place, offset } => t = t.restart(place, offset),
+        RecordChange::End(s) => t = t.end(s),
+        RecordChange::Restart { place, offset } => t = t.restart(place, offset),
     }
     // The reply goes by a copy of the answer, so that the outcome is made where it is handed back.
     let said = plan.answer;

@@ -20,11 +20,11 @@ use Rattle.task.proofs.Ways.{never, both}
 use Rattle.task.proofs.Places.{lt-or-le}
 use Rattle.table.specs.declared.Table.{Table}
 use Rattle.table.proofs.Weights.{ones-are-live}
-use Rattle.history.specs.Trace.{Told, nth, Label, byStatus, byTotalReset, byOrder, resets, isStatus, isManagement, isReset, Effect, Nothing, Accepts, Starts, Finishes, Restarts, Ends, did}
-use Rattle.history.specs.Ledger.{Ending, Entry, isEmpty, isOpen, meeting, noted, ledgerFrom, ledger, total, countOf, isFrom, acceptsFrom, acceptedFrom}
+use Rattle.history.specs.Trace.{Told, nth, Label, byStatus, byTotalReset, byOrder, resets, countsAsStatus, countsAsManagement, countsAsReset, Effect, Nothing, Accepts, Starts, Finishes, Restarts, Ends, effectTold}
+use Rattle.history.specs.Ledger.{Ending, Entry, isEmpty, isOpen, afterEffect, noted, ledgerFrom, ledger, total, countOf, isFrom, acceptsFrom, acceptedFrom}
 use Rattle.history.specs.Demand.{accountedFor, Agrees}
 use Rattle.history.proofs.Totals.{total-ext, total-le, total-add, total-at, total-two, total-find, weight-at, weight-find}
-use Rattle.history.proofs.Fates.{meeting-ways}
+use Rattle.history.proofs.Fates.{effect-ways}
 use Rattle.history.proofs.Traces.{came-in, caused-in, entered-in}
 use Rattle.history.proofs.Kept.{Tied, openWeight, hasNumber, extra, added, one-true, noted-total}
 
@@ -128,7 +128,7 @@ noted-path n p effect l =
     omega (
       arith,
       noted-total from n effect l,
-      total-ext (λ e. from (meeting n effect e)) from (λ e. meeting-ways (λ (x : Entry). from x ≡ from e) n effect e refl (λ _ _ _ _. refl) (λ _ _. refl)) l,
+      total-ext (λ e. from (afterEffect n effect e)) from (λ e. effect-ways (λ (x : Entry). from x ≡ from e) n effect e refl (λ _ _ _ _. refl) (λ _ _. refl)) l,
       accepted-path p effect,
     )
 
@@ -137,12 +137,12 @@ entries : (ids : List ℕ) (p n : ℕ) (l : List Entry) (h : List Told)
 unfolding ledgerFrom total
 entries ids p n l [] = omega arith
 entries ids p n l (x ∷ h) =
-    let effect : Effect = did ids x in
+    let effect : Effect = effectTold ids x in
     omega (arith, entries ids p (suc n) (noted n effect l) h, noted-path n p effect l)
 
 -- ---- the endings of an entry by their sort
 
-one-sort : (w : Label) → one (isStatus w) + one (isManagement w) + one (isReset w) ≡ 1
+one-sort : (w : Label) → one (countsAsStatus w) + one (countsAsManagement w) + one (countsAsReset w) ≡ 1
 one-sort byStatus = refl
 one-sort byTotalReset = refl
 one-sort (byOrder o) = cases (resets o)
@@ -154,7 +154,7 @@ one-sort (byOrder o) = cases (resets o)
 abbrev of : (Label → Bool) → List Ending → ℕ
 of sort l = countOf (λ x. sort (x .how)) l
 
-sorts : (l : List Ending) → length l ≡ of isStatus l + of isManagement l + of isReset l
+sorts : (l : List Ending) → length l ≡ of countsAsStatus l + of countsAsManagement l + of countsAsReset l
 unfolding total
 sorts [] = refl
 sorts (x ∷ l) = omega (arith, one-sort (x .how), sorts l)
@@ -162,7 +162,7 @@ sorts (x ∷ l) = omega (arith, one-sort (x .how), sorts l)
 -- an entry of the path is open, or has as many endings as one and those beyond the first
 entry-balance : (b : Bool) (l : List Ending)
     → one b + cond b (length l - 1) 0
-    ≡ cond b (of isStatus l) 0 + cond b (of isManagement l) 0 + cond b (of isReset l) 0 + cond (isEmpty l) (one b) 0
+    ≡ cond b (of countsAsStatus l) 0 + cond b (of countsAsManagement l) 0 + cond b (of countsAsReset l) 0 + cond (isEmpty l) (one b) 0
 unfolding total
 entry-balance true [] = refl
 entry-balance false [] = refl
@@ -187,12 +187,12 @@ module _ (ids : List ℕ) (h : List Told) (t : Table) (T : Tied ids (ledger ids 
       omega (
         arith,
         entries ids p 1 [] h,
-        total-ext (λ e. one (from e) + more e) (λ e. ended isStatus e + ended isManagement e + ended isReset e + opens e) (λ e. entry-balance (from e) (e .endings)) l,
+        total-ext (λ e. one (from e) + more e) (λ e. ended countsAsStatus e + ended countsAsManagement e + ended countsAsReset e + opens e) (λ e. entry-balance (from e) (e .endings)) l,
         total-add (λ e. one (from e)) more l,
         total-le more extra (λ e. cond-le (from e) (extra e)) l,
-        total-add (λ e. ended isStatus e + ended isManagement e + ended isReset e) opens l,
-        total-add (λ e. ended isStatus e + ended isManagement e) (ended isReset) l,
-        total-add (ended isStatus) (ended isManagement) l,
+        total-add (λ e. ended countsAsStatus e + ended countsAsManagement e + ended countsAsReset e) opens l,
+        total-add (λ e. ended countsAsStatus e + ended countsAsManagement e) (ended countsAsReset) l,
+        total-add (ended countsAsStatus) (ended countsAsManagement) l,
         T .single,
         T .same (λ a. one (isFrom p a)),
       )

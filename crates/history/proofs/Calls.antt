@@ -30,21 +30,21 @@ use Rattle.table.specs.Promises.{Good}
 use Rattle.table.specs.declared.Path as path
 use Rattle.table.specs.declared.Unit as unit
 use Rattle.table.specs.declared.Table.{Table}
-use Rattle.table.proofs.Views.{OnlyTasks, Found, not-both, live-at, idsOf, ids-at, ids-length, ids-marked, ids-attended, ids-alarmed, ids-warned, reset-ids, accepted-put, accepted-only, ended-only, ended-next, ended-paths, ended-units, altered-only, altered-next, finished-ways, pick-at}
+use Rattle.table.proofs.Views.{OnlyTasks, Found, not-both, live-at, idsOf, ids-at, ids-length, ids-marked, ids-attention-gone, ids-reset-attention, ids-cleared-attention, reset-ids, accepted-put, accepted-only, ended-only, ended-next, ended-paths, ended-units, altered-only, altered-next, finished-ways, pick-at}
 use Rattle.table.proofs.Weights.{weight-same, accept-weighs, end-weighs, reset-weighs}
 use Rattle.rules.specs.Management.{endsOf, orderCode, orderPaths}
-use Rattle.rules.specs.Rules.{factsOf, seenOf, deciding}
+use Rattle.rules.specs.Rules.{factsOf, lookupOf, deciding}
 use Rattle.rules.specs.declared.rules.Facts.{Facts}
-use Rattle.rules.specs.declared.rules.Mood.{Mood}
-use Rattle.rules.specs.declared.rules.Mood.the-variants.{Stay, Mark, Unmark, Attend}
+use Rattle.rules.specs.declared.rules.SenderChange.{SenderChange}
+use Rattle.rules.specs.declared.rules.SenderChange.the-variants.{Stays, SetMark, ClearMark, ClearMarkAndAttention}
 use Rattle.rules.specs.declared.rules.Ruling.{Ruling}
 use Rattle.rules.specs.declared.rules.Ruling.the-variants.{Refuse, Respond, Report, Invalid, Accept}
 use Rattle.rules.specs.declared.manage.Order.{Order}
 use Rattle.rules.specs.declared.manage.Order.the-variants.{AbortTask, AbortTaskSet, ClearTaskSet, ClearAca, UnitReset, TargetReset}
-use Rattle.plan.specs.Plans.{askedOf, kindOf, ruled, orderPlan, isAwaited, confirmPlan, inMood, pathsAfter, unitsAfter}
-use Rattle.engine.specs.Calls.{refused, withParts, acted, carriedOut, planAt, messageOf, choiceOn, startOf, finishOf, totalResetOf}
-use Rattle.plan.specs.declared.What.{What}
-use Rattle.plan.specs.declared.What.the-variants.{Command, Manage, Confirm}
+use Rattle.plan.specs.Plans.{askedOf, kindOf, ruled, orderPlan, isAwaited, confirmPlan, senderAfter, pathsAfter, unitsAfter}
+use Rattle.engine.specs.Calls.{refused, withParts, withRecords, carriedOut, planAt, messageOf, choiceOn, startOf, finishOf, totalResetOf}
+use Rattle.plan.specs.declared.Request.{Request}
+use Rattle.plan.specs.declared.Request.the-variants.{Command, Manage, Confirm}
 use Rattle.plan.specs.declared.Asked.{Asked}
 use Rattle.plan.specs.declared.Asked.the-variants.{By, Unread}
 use Rattle.plan.specs.declared.Change.{Change}
@@ -54,7 +54,7 @@ use Rattle.plan.specs.declared.Answer.the-variants as answer
 use Rattle.engine.specs.declared.Outcome.{Outcome}
 use Rattle.engine.proofs.Outcomes.{each-message, each-start, each-finish, each-reset, each-confirm}
 use Rattle.engine.proofs.Keeps.{accept-has-room}
-use Rattle.history.specs.Trace.{Event, Message, Start, Finish, TotalReset, Label, byStatus, byTotalReset, byOrder, isStatus, Effect, Nothing, Accepts, Starts, Finishes, Restarts, Ends, Fate, stays, becomes, ended, fateOf, placeIn, commandEffect, orderEffect, confirmEffect, messageEffect, effectOf}
+use Rattle.history.specs.Trace.{Event, Message, Start, Finish, TotalReset, Label, byStatus, byTotalReset, byOrder, countsAsStatus, Effect, Nothing, Accepts, Starts, Finishes, Restarts, Ends, Fate, stays, becomes, ended, fateOf, placeIn, commandEffect, orderEffect, confirmEffect, messageEffect, effectOf}
 use Rattle.history.proofs.Nth.{same-element}
 use Rattle.history.proofs.Totals.{weight-live, weight-zero, altered-weighs}
 use Rattle.history.proofs.Fates.{taken}
@@ -62,24 +62,24 @@ use Rattle.history.proofs.Kept.{endsByStatus, fated, weighed, Sure, Don
 
 -- ---- what a change of paths and units leaves
 
-ids-mood : (l : List path.Path) (p : ℕ) (mood : Mood) → idsOf (inMood l p mood) ≡ idsOf l
-ids-mood l p Stay = refl
-ids-mood l p Mark = ids-marked l p true
-ids-mood l p Unmark = ids-marked l p false
-ids-mood l p Attend = ids-attended _ p ∙ ids-marked l p false
+ids-sender : (l : List path.Path) (p : ℕ) (sender : SenderChange) → idsOf (senderAfter l p sender) ≡ idsOf l
+ids-sender l p Stays = refl
+ids-sender l p SetMark = ids-marked l p true
+ids-sender l p ClearMark = ids-marked l p false
+ids-sender l p ClearMarkAndAttention = ids-attention-gone _ p ∙ ids-marked l p false
 
-ids-order : (l : List path.Path) (count losers : ℕ) (o : Order) → idsOf (orderPaths l count losers o) ≡ idsOf l
-ids-order l count losers (AbortTask tag2) = refl
-ids-order l count losers (AbortTaskSet lun) = refl
-ids-order l count losers (ClearTaskSet lun) = ids-warned l losers
-ids-order l count losers (ClearAca lun) = refl
-ids-order l count losers (UnitReset lun) = ids-alarmed l count false
-ids-order l count losers TargetReset = ids-alarmed l count false
+ids-order : (l : List path.Path) (count others : ℕ) (o : Order) → idsOf (orderPaths l count others o) ≡ idsOf l
+ids-order l count others (AbortTask tag2) = refl
+ids-order l count others (AbortTaskSet lun) = refl
+ids-order l count others (ClearTaskSet lun) = ids-cleared-attention l others
+ids-order l count others (ClearAca lun) = refl
+ids-order l count others (UnitReset lun) = ids-reset-attention l count false
+ids-order l count others TargetReset = ids-reset-attention l count false
 
 ids-after : (l : List path.Path) (count : ℕ) (c : Change) → idsOf (pathsAfter l count c) ≡ idsOf l
 ids-after l count change.Nothing = refl
-ids-after l count (change.Sender p mood) = ids-mood l p mood
-ids-after l count (change.Besides losers o) = ids-order l count losers o
+ids-after l count (change.OfSender p sender) = ids-sender l p sender
+ids-after l count (change.ByOrder others o) = ids-order l count others o
 
 -- ---- what each effect is sure of
 
@@ -107,7 +107,7 @@ module _ (t : Table) where
   unfolding fateOf
   sure-restarts s offset = calm (Restarts s offset) t refl (λ b. cond-ind (λ (x : Fate). endsByStatus x ≡ false) (picks s b) (λ _. refl) (λ _. refl))
 
-  sure-ends : (s : Selection) (how : Label) → isStatus how ≡ false → Sure (Ends s how) t
+  sure-ends : (s : Selection) (how : Label) → countsAsStatus how ≡ false → Sure (Ends s how) t
   unfolding fateOf
   sure-ends s how e = calm (Ends s how) t refl (λ b. cond-ind (λ (x : Fate). endsByStatus x ≡ false) (picks s b) (λ _. e) (λ _. refl))
 
@@ -181,37 +181,37 @@ module _ (t : Table) (g : Good t) where
   done-parts : (c : Change) → Done Nothing t (withParts t c)
   done-parts c = done-beside Nothing t t (pathsAfter (t .paths) (t .count) c) (unitsAfter (t .units) c) (ids-after (t .paths) (t .count) c) (done-nothing t)
 
-  shaped-sender : (p : ℕ) (mood : Mood) → Shaped (withParts t (change.Sender p mood))
-  shaped-sender p mood = record {
+  shaped-sender : (p : ℕ) (sender : SenderChange) → Shaped (withParts t (change.OfSender p sender))
+  shaped-sender p sender = record {
     map = g .shaped .map;
     next = g .shaped .next;
-    paths = ids-length (t .paths) (inMood (t .paths) p mood) (ids-mood (t .paths) p mood) ∙ g .shaped .paths;
+    paths = ids-length (t .paths) (senderAfter (t .paths) p sender) (ids-sender (t .paths) p sender) ∙ g .shaped .paths;
     units = g .shaped .units;
     tasks = g .shaped .tasks;
   }
 
   -- the mark goes, and the command comes
   done-coming : (p tag lun : ℕ) (kind : Kind) (confirm : Bool) → hasRoom t ≡ true
-      → Done (Accepts (newTask t p tag lun kind confirm)) t (accepted (withParts t (change.Sender p Unmark)) p tag lun kind confirm)
+      → Done (Accepts (newTask t p tag lun kind confirm)) t (accepted (withParts t (change.OfSender p ClearMark)) p tag lun kind confirm)
   unfolding hasRoom fateOf
   done-coming p tag lun kind confirm room =
-      let u : Table = withParts t (change.Sender p Unmark) in
+      let u : Table = withParts t (change.OfSender p ClearMark) in
       let o : OnlyTasks u (accepted u p tag lun kind confirm) = accepted-only u p tag lun kind confirm in
       record {
         count = only-count u _ o;
-        ids = λ k. only-ids u _ o k ∙ done-parts (change.Sender p Unmark) .ids k;
+        ids = λ k. only-ids u _ o k ∙ done-parts (change.OfSender p ClearMark) .ids k;
         next = ap (λ (x : Table). x .next) (accepted-put u p tag lun kind confirm room);
-        weighs = λ f. omega (arith, accept-weighs f u p tag lun kind confirm (shaped-sender p Unmark) room, done-parts (change.Sender p Unmark) .weighs f);
+        weighs = λ f. omega (arith, accept-weighs f u p tag lun kind confirm (shaped-sender p ClearMark) room, done-parts (change.OfSender p ClearMark) .weighs f);
         sure = sure-accepts t p tag lun kind confirm;
       }
 
   done-ruled : (p tag lun : ℕ) (flags : Flags) (r : Ruling) → (r ≡ Accept → hasRoom t ≡ true)
       → Done (commandEffect p tag lun (kindOf (flags .queue)) (flags .confirm) (ruled (t .next) p tag lun flags r .answer)) t (carriedOut t (ruled (t .next) p tag lun flags r))
-  unfolding carriedOut acted
+  unfolding carriedOut withRecords
   done-ruled p tag lun flags (Refuse n) room = done-nothing t
-  done-ruled p tag lun flags (Respond code mood) room = done-parts (change.Sender p mood)
-  done-ruled p tag lun flags (Report status sense mood) room = done-parts (change.Sender p mood)
-  done-ruled p tag lun flags (Invalid mood) room = done-parts (change.Sender p mood)
+  done-ruled p tag lun flags (Respond code sender) room = done-parts (change.OfSender p sender)
+  done-ruled p tag lun flags (Report status sense sender) room = done-parts (change.OfSender p sender)
+  done-ruled p tag lun flags (Invalid sender) room = done-parts (change.OfSender p sender)
   done-ruled p tag lun flags Accept room = done-coming p tag lun (kindOf (flags .queue)) (flags .confirm) (room refl)
 
   -- ---- an order
@@ -220,24 +220,24 @@ module _ (t : Table) (g : Good t) where
   unfolding fateOf
   done-picked s how sure = done-ended t (Ends s how) s how (g .shaped) refl (λ _ _ _ _. refl) sure
 
-  done-besides : (losers p : ℕ) (o : Order) → Done (Ends (endsOf p o) (byOrder o)) t (endedBy (withParts t (change.Besides losers o)) (endsOf p o))
-  done-besides losers p o =
-      let ps : List path.Path = pathsAfter (t .paths) (t .count) (change.Besides losers o) in
-      let us : List unit.Unit = unitsAfter (t .units) (change.Besides losers o) in
+  done-by-order : (others p : ℕ) (o : Order) → Done (Ends (endsOf p o) (byOrder o)) t (endedBy (withParts t (change.ByOrder others o)) (endsOf p o))
+  done-by-order others p o =
+      let ps : List path.Path = pathsAfter (t .paths) (t .count) (change.ByOrder others o) in
+      let us : List unit.Unit = unitsAfter (t .units) (change.ByOrder others o) in
       let s : Selection = endsOf p o in
       let turned : endedBy (withPaths (withUnits t us) ps) s ≡ withPaths (withUnits (endedBy t s) us) ps =
       ended-paths (withUnits t us) s ps ∙ ap (λ (x : Table). withPaths x ps) (ended-units t s us) in
       let kept : idsOf ps ≡ idsOf (endedBy t s .paths) =
-      ids-after (t .paths) (t .count) (change.Besides losers o) ∙ ap (λ (x : Table). idsOf (x .paths)) (sym (ended-only t s .rest)) in
+      ids-after (t .paths) (t .count) (change.ByOrder others o) ∙ ap (λ (x : Table). idsOf (x .paths)) (sym (ended-only t s .rest)) in
       subst (Done (Ends s (byOrder o)) t) (sym turned) (done-beside (Ends s (byOrder o)) t (endedBy t s) ps us kept (done-picked s (byOrder o) (sure-ends t s (byOrder o) refl)))
 
   done-ordered : (f : Facts) (p tag : ℕ) (m : List ℕ) (o : Order) → Done (orderEffect p o (orderPlan f p tag m o .answer)) t (carriedOut t (orderPlan f p tag m o))
-  unfolding orderPlan carriedOut acted
+  unfolding orderPlan carriedOut withRecords
   done-ordered f p tag m o =
       cond-ind (λ (pl : Plan). Done (orderEffect p o (pl .answer)) t (carriedOut t pl)) (eqb (orderCode f m o .0) (Paper.done .0))
       (λ e.
-      subst (λ (b : Bool). Done (cond b (Ends (endsOf p o) (byOrder o)) Nothing) t (endedBy (withParts t (change.Besides (f .losers) o)) (endsOf p o))) (sym e)
-      (done-besides (f .losers) p o))
+      subst (λ (b : Bool). Done (cond b (Ends (endsOf p o) (byOrder o)) Nothing) t (endedBy (withParts t (change.ByOrder (f .others) o)) (endsOf p o))) (sym e)
+      (done-by-order (f .others) p o))
       (λ e. subst (λ (b : Bool). Done (cond b (Ends (endsOf p o) (byOrder o)) Nothing) t t) (sym e) (done-nothing t))
 
   -- ---- a confirmation
@@ -263,7 +263,7 @@ module _ (t : Table) (g : Good t) where
 
   done-confirm : (p tag : ℕ) (m : List ℕ) (offset : ℕ) (complete : Bool)
       → let pl : Plan = confirmPlan (pickOf t (named p tag)) p tag m offset complete in Done (confirmEffect p tag offset (pl .answer)) t (carriedOut t pl)
-  unfolding carriedOut acted
+  unfolding carriedOut withRecords
   done-confirm p tag m offset complete =
       let found : isAwaited (pickOf t (named p tag)) ≡ true → Found t (named p tag) _ _ = λ w. pick-at t (named p tag) (g .shaped) (both _ _ w .0) in
       each-confirm (λ (pl : Plan). Done (confirmEffect p tag offset (pl .answer)) t (carriedOut t pl)) (pickOf t (named p tag)) p tag m offset complete
@@ -365,9 +365,9 @@ module _ (ids : List ℕ) (t : Table) (g : Good t) (listed : t .count ≡ length
   stops : (ev : Event) (n : Refusal) → DoneBy ev (refused t n)
   stops ev n = subst (λ (x : Effect). Done x t t) (sym (refused-nothing ids ev n)) (done-nothing t)
 
-  done-planned : (m : List ℕ) (path tag : ℕ) (w : What) → pathOf t path < 8
+  done-planned : (m : List ℕ) (path tag : ℕ) (w : Request) → pathOf t path < 8
       → Done (messageEffect ids (By path tag w) (planAt t m (pathOf t path) tag w .answer)) t (carriedOut t (planAt t m (pathOf t path) tag w))
-  unfolding planAt seenOf
+  unfolding planAt lookupOf
   done-planned m path tag (Command lun flags) l =
       let p : ℕ = pathOf t path in
       subst (λ (q : ℕ). Done (commandEffect q tag lun (kindOf (flags .queue)) (flags .confirm) (planAt t m p tag (Command lun flags) .answer)) t (carriedOut t (planAt t m p tag (Command lun flags)))) (sym (place path l))

@@ -9,7 +9,7 @@ use Rattle.table.specs.declared.Table.{Table}
 use Rattle.engine.specs.Calls.{setupOf}
 use Rattle.history.specs.Trace.{Event, Start, Finish, TotalReset}
 use Rattle.history.specs.Demand.{told, Chained, lastTable, Agrees, Demand3}
-use Rattle.history.specs.Drives.{Drive, callsOf, ByDrive, echoes, endedByTag, goesByTag, restarts, finishesAll, losesTasks, endsAtFinish, inventsLive, WrongDrives}
+use Rattle.history.specs.Drives.{Drive, callsOf, ByDrive, echoes, endedByTag, goesByTag, numbersAnew, finishesAll, losesTasks, endsAtFinish, inventsLive, WrongDrives}
 use Rattle.history.specs.TwoHosts.{hosts, fresh, buffer, command, confirmable, abort}
 use Rattle.history.proofs.Computing.{computing}
 
@@ -36,7 +36,7 @@ abbrev finish : ℕ → Event
 finish arrival = Finish arrival Paper.good Paper.noSense 0 buffer
 
 pub wrong-drives : WrongDrives
-unfolding computing echoes endedByTag goesByTag restarts finishesAll losesTasks endsAtFinish inventsLive
+unfolding computing echoes endedByTag goesByTag numbersAnew finishesAll losesTasks endsAtFinish inventsLive
 wrong-drives = record {
   -- two commands are accepted, none is ended, one is live
   not-echoes = λ d.
@@ -47,8 +47,8 @@ wrong-drives = record {
       let z : _≡_ {A = ℕ} 1 0 = attempt goesByTag d (inquiry 1 5 ∷ inquiry 2 5 ∷ abort 1 6 5 ∷ []) .balance 1 in
       omega arith;
   -- total reset ends host 1's command, and the finish of host 2's, which has the same arrival number, ends it again
-  not-restarts = λ d.
-      let z : 2 ≤ 1 = attempt restarts d (inquiry 1 5 ∷ Start 0 ∷ TotalReset ∷ inquiry 2 5 ∷ Start 0 ∷ finish 1 ∷ []) .once 0 _ refl in
+  not-numbers-anew = λ d.
+      let z : 2 ≤ 1 = attempt numbersAnew d (inquiry 1 5 ∷ Start 0 ∷ TotalReset ∷ inquiry 2 5 ∷ Start 0 ∷ finish 1 ∷ []) .once 0 _ refl in
       omega arith;
   -- the command is aborted while it waits, and the late finish ends it again
   not-finishes-all = λ d.

@@ -11,8 +11,8 @@ use Rattle.task.specs.declared.Phase.{Phase}
 use Rattle.task.specs.declared.Phase.the-variants.{Waiting, Running, Unconfirmed}
 use Rattle.task.specs.declared.Task.{Task}
 use Rattle.task.proofs.Ways.{cond-ind}
-use Rattle.history.specs.Trace.{Label, byStatus, isStatus, Effect, Nothing, Accepts, Starts, Finishes, Restarts, Ends, Fate, stays, becomes, ended, fateOf}
-use Rattle.history.specs.Ledger.{Entry, isOpen, newEntry, met, meeting, coming}
+use Rattle.history.specs.Trace.{Label, byStatus, countsAsStatus, Effect, Nothing, Accepts, Starts, Finishes, Restarts, Ends, Fate, stays, becomes, ended, fateOf}
+use Rattle.history.specs.Ledger.{Entry, isOpen, newEntry, afterFate, afterEffect, newEntries}
 
 -- ---- the fate of a command
 
@@ -29,17 +29,17 @@ fate-ways P (Restarts r offset) a s b d = cond-ind P (picks r a) (λ _. b Waitin
 fate-ways P (Ends r how) a s b d = cond-ind P (picks r a) (λ _. d how) (λ _. s)
 
 -- a fact about an entry after event n, from each way that it may go
-pub meeting-ways : (P : Entry → Type 0) (n : ℕ) (effect : Effect) (e : Entry) → P e
+pub effect-ways : (P : Entry → Type 0) (n : ℕ) (effect : Effect) (e : Entry) → P e
     → ((phase : Phase) (transferred offset : ℕ) → isOpen e ≡ true
     → P (record { task = inPhase phase transferred offset (e .task); accepted = e .accepted; endings = e .endings }))
     → ((how : Label) → fateOf effect (e .task) ≡ ended how
     → P (record { task = e .task; accepted = e .accepted; endings = e .endings ++ (record { event = n; how = how } ∷ []) }))
-    → P (meeting n effect e)
-unfolding meeting
-meeting-ways P n effect e s b d =
-    fate-ways (λ (x : Fate). fateOf effect (e .task) ≡ x → P (met n x e)) effect (e .task) (λ _. s)
+    → P (afterEffect n effect e)
+unfolding afterEffect
+effect-ways P n effect e s b d =
+    fate-ways (λ (x : Fate). fateOf effect (e .task) ≡ x → P (afterFate n x e)) effect (e .task) (λ _. s)
     (λ phase transferred offset _. cond-ind P (isOpen e) (b phase transferred offset) (λ _. s))
-    (λ how f. cond-ind P (isOpen e || isStatus how) (λ _. d how f) (λ _. s)) refl
+    (λ how f. cond-ind P (isOpen e || countsAsStatus how) (λ _. d how f) (λ _. s)) refl
 
 -- ---- the command that an event accepts, if it does
 
@@ -51,11 +51,11 @@ taken (Finishes n transferred) = none
 taken (Restarts s offset) = none
 taken (Ends s how) = none
 
-pub coming-ways : (P : Option Task → List Entry → Type 0) (n : ℕ) (effect : Effect) → P none []
-    → ((a : Task) → effect ≡ Accepts a → P (some a) (newEntry n a ∷ [])) → P (taken effect) (coming n effect)
-coming-ways P n Nothing nothing accepts = nothing
-coming-ways P n (Accepts a) nothing accepts = accepts a refl
-coming-ways P n (Starts arrival) nothing accepts = nothing
-coming-ways P n (Finishes arrival transferred) nothing accepts = nothing
-coming-ways P n (Restarts s offset) nothing accepts = nothing
-coming-ways P n (Ends s how) nothing accepts = nothing
+pub new-entries-ways : (P : Option Task → List Entry → Type 0) (n : ℕ) (effect : Effect) → P none []
+    → ((a : Task) → effect ≡ Accepts a → P (some a) (newEntry n a ∷ [])) → P (taken effect) (newEntries n effect)
+new-entries-ways P n Nothing nothing accepts = nothing
+new-entries-ways P n (Accepts a) nothing accepts = accepts a refl
+new-entries-ways P n (Starts arrival) nothing accepts = nothing
+new-entries-ways P n (Finishes arrival transferred) nothing accepts = nothing
+new-entries-ways P n (Restarts s offset) nothing accepts = nothing
+new-entries-ways P n (Ends s how) nothing accepts = nothing

@@ -18,10 +18,10 @@ use Rattle.table.specs.Tables.{pathAt}
 use Rattle.table.specs.View.{at, weightAt, weight}
 use Rattle.table.specs.Promises.{Good}
 use Rattle.table.specs.declared.Table.{Table}
-use Rattle.history.specs.Trace.{isStatus, Effect, Fate, stays, becomes, ended, fateOf}
-use Rattle.history.specs.Ledger.{Ending, Entry, isEmpty, isOpen, newEntry, met, meeting, coming, noted, total, countOf}
+use Rattle.history.specs.Trace.{countsAsStatus, Effect, Fate, stays, becomes, ended, fateOf}
+use Rattle.history.specs.Ledger.{Ending, Entry, isEmpty, isOpen, newEntry, afterFate, afterEffect, newEntries, noted, total, countOf}
 use Rattle.history.proofs.Totals.{total-ext, total-le, total-add, total-append, total-map, total-at, total-find, weight-at}
-use Rattle.history.proofs.Fates.{meeting-ways, taken, coming-ways}
+use Rattle.history.proofs.Fates.{effect-ways, taken, new-entries-ways}
 
 -- ---- weights of an entry: of its task while it is open; its number; the endings beyond the first
 
@@ -64,7 +64,7 @@ added effect f = weightAt f (taken effect)
 abbrev pub endsByStatus : Fate → Bool
 endsByStatus stays = false
 endsByStatus (becomes b) = false
-endsByStatus (ended how) = isStatus how
+endsByStatus (ended how) = countsAsStatus how
 
 -- a command takes the next number; what ends by status has the number of a live task
 pub record Sure (effect : Effect) (t : Table) : Type 0 where
@@ -85,21 +85,21 @@ abbrev again : Fate → List Ending → Bool
 again x l = endsByStatus x && not (isEmpty l)
 
 module _ (n : ℕ) where
-  met-open : (f : Task → ℕ) (x : Fate) (a : Task) (k : ℕ) (l : List Ending)
-      → openWeight f (met n x (record { task = a; accepted = k; endings = l })) ≡ cond (isEmpty l) (fated f a x) 0
-  met-open f stays a k l = refl
-  met-open f (becomes b) a k [] = refl
-  met-open f (becomes b) a k (y ∷ l) = refl
-  met-open f (ended how) a k [] = refl
-  met-open f (ended how) a k (y ∷ l) = cond-ind (λ (e : Entry). openWeight f e ≡ 0) (isStatus how) (λ _. refl) (λ _. refl)
+  fate-open : (f : Task → ℕ) (x : Fate) (a : Task) (k : ℕ) (l : List Ending)
+      → openWeight f (afterFate n x (record { task = a; accepted = k; endings = l })) ≡ cond (isEmpty l) (fated f a x) 0
+  fate-open f stays a k l = refl
+  fate-open f (becomes b) a k [] = refl
+  fate-open f (becomes b) a k (y ∷ l) = refl
+  fate-open f (ended how) a k [] = refl
+  fate-open f (ended how) a k (y ∷ l) = cond-ind (λ (e : Entry). openWeight f e ≡ 0) (countsAsStatus how) (λ _. refl) (λ _. refl)
 
-  met-extra : (x : Fate) (a : Task) (k : ℕ) (l : List Ending)
-      → extra (met n x (record { task = a; accepted = k; endings = l })) ≤ (length l - 1) + one (again x l)
-  met-extra stays a k l = omega arith
-  met-extra (becomes b) a k [] = omega arith
-  met-extra (becomes b) a k (y ∷ l) = omega arith
-  met-extra (ended how) a k [] = omega arith
-  met-extra (ended how) a k (y ∷ l) = elim (either-way (isStatus how)) [
+  fate-extra : (x : Fate) (a : Task) (k : ℕ) (l : List Ending)
+      → extra (afterFate n x (record { task = a; accepted = k; endings = l })) ≤ (length l - 1) + one (again x l)
+  fate-extra stays a k l = omega arith
+  fate-extra (becomes b) a k [] = omega arith
+  fate-extra (becomes b) a k (y ∷ l) = omega arith
+  fate-extra (ended how) a k [] = omega arith
+  fate-extra (ended how) a k (y ∷ l) = elim (either-way (countsAsStatus how)) [
     | inl s ↦ rw s (omega (arith, length-append l (record { event = n; how = how } ∷ [])))
     | inr s ↦ rw s (omega arith)
   ]
@@ -118,14 +118,14 @@ one-true false h = absurd (omega arith)
 -- ---- a command that comes
 
 pub noted-total : (f : Entry → ℕ) (n : ℕ) (effect : Effect) (l : List Entry)
-    → total f (noted n effect l) ≡ total (λ e. f (meeting n effect e)) l + added effect (λ a. f (newEntry n a))
+    → total f (noted n effect l) ≡ total (λ e. f (afterEffect n effect e)) l + added effect (λ a. f (newEntry n a))
 unfolding noted total
 noted-total f n effect l =
     omega (
       arith,
-      total-append f (map (meeting n effect) l) (coming n effect),
-      total-map f (meeting n effect) l,
-      coming-ways (λ (x : Option Task) (m : List Entry). total f m ≡ weightAt (λ a. f (newEntry n a)) x) n effect refl (λ a _. omega arith),
+      total-append f (map (afterEffect n effect) l) (newEntries n effect),
+      total-map f (afterEffect n effect) l,
+      new-entries-ways (λ (x : Option Task) (m : List Entry). total f m ≡ weightAt (λ a. f (newEntry n a)) x) n effect refl (λ a _. omega arith),
     )
 
 -- s commands have the number m, and none has the next number or a later one; then one more comes, under the next number
@@ -182,15 +182,15 @@ module _ (ids : List ℕ) (l : List Entry) (t u : Table) (T : Tied ids l t) (g :
   ]
 
   pub kept : (n : ℕ) (effect : Effect) → Done effect t u → Tied ids (noted n effect l) u
-  unfolding meeting
+  unfolding afterEffect
   kept n effect d =
       let numbers : (m : ℕ) → countOf (hasNumber m) (noted n effect l) ≡ countOf (hasNumber m) l + added effect (λ a. one (eqb (a .arrival) m)) =
       λ m.
       omega (
         arith,
         noted-total (λ e. one (hasNumber m e)) n effect l,
-        total-ext (λ e. one (hasNumber m (meeting n effect e))) (λ e. one (hasNumber m e))
-            (λ e. meeting-ways (λ (x : Entry). one (hasNumber m x) ≡ one (hasNumber m e)) n effect e refl (λ _ _ _ _. refl) (λ _ _. refl)) l,
+        total-ext (λ e. one (hasNumber m (afterEffect n effect e))) (λ e. one (hasNumber m e))
+            (λ e. effect-ways (λ (x : Entry). one (hasNumber m x) ≡ one (hasNumber m e)) n effect e refl (λ _ _ _ _. refl) (λ _ _. refl)) l,
       ) in
       let anew : Entry → ℕ = λ e. one (again (fateOf effect (e .task)) (e .endings)) in
       record {
@@ -202,7 +202,7 @@ module _ (ids : List ℕ) (l : List Entry) (t u : Table) (T : Tied ids l t) (g :
             omega (
               arith,
               noted-total (openWeight f) n effect l,
-              total-ext (λ e. openWeight f (meeting n effect e)) (openWeight (weighed effect f)) (λ e. met-open n f (fateOf effect (e .task)) (e .task) (e .accepted) (e .endings)) l,
+              total-ext (λ e. openWeight f (afterEffect n effect e)) (openWeight (weighed effect f)) (λ e. fate-open n f (fateOf effect (e .task)) (e .task) (e .accepted) (e .endings)) l,
               T .same (weighed effect f),
               d .weighs f,
             );
@@ -215,7 +215,7 @@ module _ (ids : List ℕ) (l : List Entry) (t u : Table) (T : Tied ids l t) (g :
             omega (
               arith,
               noted-total extra n effect l,
-              total-le (λ e. extra (meeting n effect e)) (λ e. extra e + anew e) (λ e. met-extra n (fateOf effect (e .task)) (e .task) (e .accepted) (e .endings)) l,
+              total-le (λ e. extra (afterEffect n effect e)) (λ e. extra e + anew e) (λ e. fate-extra n (fateOf effect (e .task)) (e .task) (e .accepted) (e .endings)) l,
               total-add extra anew l,
               T .single,
               none-again effect (d .sure),

@@ -21,18 +21,18 @@ use Rattle.table.specs.Sound.{Shaped}
 use Rattle.table.specs.View.{at}
 use Rattle.table.specs.declared.Table.{Table}
 use Rattle.table.proofs.Views.{not-both, at-put-other, at-free, same-at, ended-to, altered-other, pick-at}
-use Rattle.rules.specs.Rules.{factsOf, seenOf, deciding}
+use Rattle.rules.specs.Rules.{factsOf, lookupOf, deciding}
 use Rattle.rules.specs.Management.{orderCode}
 use Rattle.plan.specs.Plans.{ruled, orderPlan}
-use Rattle.engine.specs.Calls.{withParts, planAt, acted, carriedOut}
+use Rattle.engine.specs.Calls.{withParts, planAt, withRecords, carriedOut}
 use Rattle.rules.specs.declared.rules.Ruling.{Ruling}
 use Rattle.rules.specs.declared.rules.Ruling.the-variants.{Refuse, Respond, Report, Invalid, Accept}
 use Rattle.rules.specs.declared.manage.Order.the-variants.{AbortTask}
-use Rattle.plan.specs.declared.What.{What}
-use Rattle.plan.specs.declared.What.the-variants.{Command, Manage, Confirm}
+use Rattle.plan.specs.declared.Request.{Request}
+use Rattle.plan.specs.declared.Request.the-variants.{Command, Manage, Confirm}
 use Rattle.plan.specs.declared.Change.{Change}
-use Rattle.plan.specs.declared.Deed.{Deed}
-use Rattle.plan.specs.declared.Deed.the-variants as deed
+use Rattle.plan.specs.declared.RecordChange.{RecordChange}
+use Rattle.plan.specs.declared.RecordChange.the-variants as records
 use Rattle.plan.specs.declared.Plan.{Plan}
 use Rattle.engine.specs.declared.Outcome.{Outcome}
 use Rattle.history.specs.Demand.{mayReachOthers, OthersStay}
@@ -46,11 +46,11 @@ abbrev Holds : ℕ → Task → Table → Type 0
 Holds i a t = at t i ≡ some a
 
 -- a deed ends nothing, or does not pick the task; or it is about another record
-abbrev Spares : ℕ → Task → Deed → Type 0
-Spares i a deed.Nothing = Unit {0}
-Spares i a (deed.Accept path tag lun kind confirm) = Unit {0}
-Spares i a (deed.End s) = picks s a ≡ false
-Spares i a (deed.Restart place offset) = i ≡ place → ⊥
+abbrev Spares : ℕ → Task → RecordChange → Type 0
+Spares i a records.Nothing = Unit {0}
+Spares i a (records.Accept path tag lun kind confirm) = Unit {0}
+Spares i a (records.End s) = picks s a ≡ false
+Spares i a (records.Restart place offset) = i ≡ place → ⊥
 
 module _ (i : ℕ) (a : Task) (l : i < 64) where
   -- a new task goes to a free record
@@ -64,38 +64,38 @@ module _ (i : ℕ) (a : Task) (l : i < 64) where
     parts-leave : (c : Change) → Holds i a (withParts t c)
     parts-leave c = same-at t _ _ i ∙ e
 
-    deed-leaves : (c : Change) (d : Deed) → Spares i a d → Holds i a (acted (withParts t c) d)
-    unfolding acted endedBy
-    deed-leaves c deed.Nothing s = parts-leave c
-    deed-leaves c (deed.Accept path tag lun kind confirm) s = accept-leaves (withParts t c) path tag lun kind confirm (parts-leave c)
-    deed-leaves c (deed.End ended) s = same-at (endedBy t ended) _ _ i ∙ ended-to t ended h l e s
-    deed-leaves c (deed.Restart place offset) s = altered-other (withParts t c) place _ i s ∙ parts-leave c
+    deed-leaves : (c : Change) (d : RecordChange) → Spares i a d → Holds i a (withRecords (withParts t c) d)
+    unfolding withRecords endedBy
+    deed-leaves c records.Nothing s = parts-leave c
+    deed-leaves c (records.Accept path tag lun kind confirm) s = accept-leaves (withParts t c) path tag lun kind confirm (parts-leave c)
+    deed-leaves c (records.End ended) s = same-at (endedBy t ended) _ _ i ∙ ended-to t ended h l e s
+    deed-leaves c (records.Restart place offset) s = altered-other (withParts t c) place _ i s ∙ parts-leave c
 
-    plan-leaves : (pl : Plan) → Spares i a (pl .deed) → Holds i a (carriedOut t pl)
+    plan-leaves : (pl : Plan) → Spares i a (pl .records) → Holds i a (carriedOut t pl)
     unfolding carriedOut
-    plan-leaves pl s = deed-leaves (pl .change) (pl .deed) s
+    plan-leaves pl s = deed-leaves (pl .change) (pl .records) s
 
     -- ---- what is planned for such a message of the path at p does not end or restart another path's task
 
     module _ (p : ℕ) (n : a .path ≡ p → ⊥) where
-      ruling-spares : (next tag lun : ℕ) (flags : Flags) (r : Ruling) → Spares i a (ruled next p tag lun flags r .deed)
+      ruling-spares : (next tag lun : ℕ) (flags : Flags) (r : Ruling) → Spares i a (ruled next p tag lun flags r .records)
       ruling-spares next tag lun flags (Refuse number) = tt
-      ruling-spares next tag lun flags (Respond code mood) = tt
-      ruling-spares next tag lun flags (Report status sense mood) = tt
-      ruling-spares next tag lun flags (Invalid mood) = tt
+      ruling-spares next tag lun flags (Respond code sender) = tt
+      ruling-spares next tag lun flags (Report status sense sender) = tt
+      ruling-spares next tag lun flags (Invalid sender) = tt
       ruling-spares next tag lun flags Accept = tt
 
       not-ended : (s : Selection) → (picks s a ≡ true → a .path ≡ p) → picks s a ≡ false
       not-ended s own = elim (either-way (picks s a)) [ inl y ↦ absurd (n (own y)) | inr y ↦ y ]
 
-      plan-spares : (m : List ℕ) (tag : ℕ) (w : What) → mayReachOthers w ≡ false → Spares i a (planAt t m p tag w .deed)
-      unfolding planAt seenOf orderPlan
+      plan-spares : (m : List ℕ) (tag : ℕ) (w : Request) → mayReachOthers w ≡ false → Spares i a (planAt t m p tag w .records)
+      unfolding planAt lookupOf orderPlan
       plan-spares m tag (Command lun flags) r = ruling-spares (t .next) tag lun flags (deciding (factsOf t p tag lun false) flags m .gives)
       plan-spares m tag (Manage o) r =
-          cond-ind (λ (pl : Plan). Spares i a (pl .deed)) (eqb (orderCode _ m o .0) (Paper.done .0)) (λ _. not-ended _ (own-order p o r a)) (λ _. tt)
+          cond-ind (λ (pl : Plan). Spares i a (pl .records)) (eqb (orderCode _ m o .0) (Paper.done .0)) (λ _. not-ended _ (own-order p o r a)) (λ _. tt)
       plan-spares m tag (Confirm offset complete) r =
           let own : Pick = pickOf t (named p tag) in
-          each-confirm (λ (pl : Plan). Spares i a (pl .deed)) own p tag m offset complete tt tt (λ _. not-ended _ (own-numbered (own .task .arrival) p tag a))
+          each-confirm (λ (pl : Plan). Spares i a (pl .records)) own p tag m offset complete tt tt (λ _. not-ended _ (own-numbered (own .task .arrival) p tag a))
           (λ w _ same.
           let f = pick-at t (named p tag) h (both _ _ w .0) in
           n (ap (λ (b : Task). b .path) (same-element (rw same at e) (f .here)) ∙ own-order p (AbortTask tag) refl (own .task) (f .picked)))

@@ -29,17 +29,17 @@ use Rattle.rules.specs.Management.{endsOf}
 use Rattle.plan.specs.Plans.{askedOf, kindOf}
 use Rattle.rules.specs.declared.manage.Order.{Order}
 use Rattle.rules.specs.declared.manage.Order.the-variants.{AbortTask, AbortTaskSet, ClearTaskSet, ClearAca, UnitReset, TargetReset}
-use Rattle.plan.specs.declared.What.{What}
-use Rattle.plan.specs.declared.What.the-variants.{Command, Manage, Confirm}
+use Rattle.plan.specs.declared.Request.{Request}
+use Rattle.plan.specs.declared.Request.the-variants.{Command, Manage, Confirm}
 use Rattle.plan.specs.declared.Asked.{Asked}
 use Rattle.plan.specs.declared.Asked.the-variants.{By, Unread}
 use Rattle.plan.specs.declared.Answer.{Answer}
 use Rattle.plan.specs.declared.Answer.the-variants as answer
-use Rattle.history.specs.Trace.{Event, Message, Start, Finish, TotalReset, Told, nth, eventAt, Label, byStatus, byOrder, Effect, Nothing, Accepts, Restarts, Ends, Fate, stays, becomes, ended, fateOf, placeIn, commandEffect, orderEffect, confirmEffect, messageEffect, startEffect, finishEffect, resetEffect, effectOf, did}
-use Rattle.history.specs.Ledger.{Ending, Entry, isEmpty, newEntry, meeting, coming, noted, ledgerFrom, ledger, Has}
+use Rattle.history.specs.Trace.{Event, Message, Start, Finish, TotalReset, Told, nth, eventAt, Label, byStatus, byOrder, Effect, Nothing, Accepts, Restarts, Ends, Fate, stays, becomes, ended, fateOf, placeIn, commandEffect, orderEffect, confirmEffect, messageEffect, startEffect, finishEffect, resetEffect, effectOf, effectTold}
+use Rattle.history.specs.Ledger.{Ending, Entry, isEmpty, newEntry, afterEffect, newEntries, noted, ledgerFrom, ledger, Has}
 use Rattle.history.specs.Demand.{EntryAt, waiting, Came, Caused, reachesOthers, mayReachOthers, EndsItsOwn}
 use Rattle.history.proofs.Nth.{Each, same-element, nth-below, nth-append, nth-last, nth-map, each-none, each-one, each-append, each-map}
-use Rattle.history.proofs.Fates.{meeting-ways, taken, coming-ways}
+use Rattle.history.proofs.Fates.{effect-ways, taken, new-entries-ways}
 
 -- ---- what an event can do, by its answer
 
@@ -101,7 +101,7 @@ event-waiting ids (Finish arrival status sense transferred buf) a =
 event-waiting ids TotalReset a =
     each-answer (λ a. AcceptsWaiting (resetEffect a)) tt (λ _. tt) (λ _ _. tt) (λ _ _ _. tt) (λ _. tt) (λ _ _. tt) (λ _. tt) (λ _. tt) tt (λ _. tt) a
 
-accepts-waiting : (ids : List ℕ) (x : Told) (a : Task) → did ids x ≡ Accepts a → waiting a ≡ a
+accepts-waiting : (ids : List ℕ) (x : Told) (a : Task) → effectTold ids x ≡ Accepts a → waiting a ≡ a
 accepts-waiting ids x a f = subst AcceptsWaiting f (event-waiting ids (x .event) (x .answer))
 
 -- ---- what an event leaves of an entry: the command but for its phase, bytes and offset, and its acceptance
@@ -109,14 +109,14 @@ accepts-waiting ids x a f = subst AcceptsWaiting f (event-waiting ids (x .event)
 abbrev SameCommand : Entry → Entry → Type 0
 SameCommand e d = (d .accepted ≡ e .accepted) × (waiting (d .task) ≡ waiting (e .task))
 
-meeting-same : (n : ℕ) (f : Effect) (e : Entry) → SameCommand e (meeting n f e)
-meeting-same n f e = meeting-ways (SameCommand e) n f e (refl, refl) (λ _ _ _ _. (refl, refl)) (λ _ _. (refl, refl))
+effect-same : (n : ℕ) (f : Effect) (e : Entry) → SameCommand e (afterEffect n f e)
+effect-same n f e = effect-ways (SameCommand e) n f e (refl, refl) (λ _ _ _ _. (refl, refl)) (λ _ _. (refl, refl))
 
 -- ---- event by event: what holds before the first event, and is kept by each, holds at the end of the trace
 
 module _ (ids : List ℕ) (h : List Told) where
   abbrev pub KeptByEvents : (ℕ → List Entry → Type 0) → Type 0
-  KeptByEvents P = (n : ℕ) (x : Told) (l : List Entry) → eventAt h n ≡ some x → P n l → P (suc n) (noted n (did ids x) l)
+  KeptByEvents P = (n : ℕ) (x : Told) (l : List Entry) → eventAt h n ≡ some x → P n l → P (suc n) (noted n (effectTold ids x) l)
 
   -- rest is what the trace has from event n on
   along : (P : ℕ → List Entry → Type 0) → KeptByEvents P → (rest : List Told) (n : ℕ) (l : List Entry) → ((k : ℕ) → eventAt h (n + k) ≡ nth rest k)
@@ -125,7 +125,7 @@ module _ (ids : List ℕ) (h : List Told) where
   along P kept [] n l there p = rw add-zero p
   along P kept (x ∷ rest) n l there p =
       rw (add-suc, ← suc-add)
-      (along P kept rest (suc n) (noted n (did ids x) l) (λ k. rw (suc-add, ← add-suc) (there (suc k)))
+      (along P kept rest (suc n) (noted n (effectTold ids x) l) (λ k. rw (suc-add, ← add-suc) (there (suc k)))
       (kept n x l (rw add-zero at (there zero)) p))
 
   pub by-events : (P : ℕ → List Entry → Type 0) → KeptByEvents P → P 1 [] → P (1 + length h) (ledger ids h)
@@ -159,9 +159,9 @@ module _ (ids : List ℕ) (h : List Told) where
 
   module _ (n : ℕ) (x : Told) (there : eventAt h n ≡ some x) where
     -- an entry goes on in another way only while it has no ending; and one ending more is by event n
-    known-meeting : (e : Entry) → Known n e → Known (suc n) (meeting n (did ids x) e)
-    known-meeting e w =
-        meeting-ways (Known (suc n)) n (did ids x) e (known-later w)
+    known-after : (e : Entry) → Known n e → Known (suc n) (afterEffect n (effectTold ids x) e)
+    known-after e w =
+        effect-ways (Known (suc n)) n (effectTold ids x) e (known-later w)
         (λ phase transferred offset o. known-change (refl, refl) (each-empty _ (e .endings) o) w)
         (λ how f.
         known-change (refl, refl)
@@ -169,9 +169,9 @@ module _ (ids : List ℕ) (h : List Told) where
         (λ k y g. let c = w .caused k y g in record { after = c .after; cause = c .cause; there = c .there; effect = c .effect })
         (each-one _ _ (record { after = w .before; cause = x; there = there; effect = f }))) w)
 
-    known-coming : Each (Known (suc n)) (coming n (did ids x))
-    known-coming =
-        coming-ways (λ (_ : Option Task) (l : List Entry). Each (Known (suc n)) l) n (did ids x) (each-none _)
+    known-new : Each (Known (suc n)) (newEntries n (effectTold ids x))
+    known-new =
+        new-entries-ways (λ (_ : Option Task) (l : List Entry). Each (Known (suc n)) l) n (effectTold ids x) (each-none _)
         (λ a f.
         each-one _ (newEntry n a)
         (record {
@@ -180,11 +180,11 @@ module _ (ids : List ℕ) (h : List Told) where
           caused = each-none (Caused ids h (newEntry n a));
         }))
 
-    known-noted : (l : List Entry) → Each (Known n) l → Each (Known (suc n)) (noted n (did ids x) l)
+    known-noted : (l : List Entry) → Each (Known n) l → Each (Known (suc n)) (noted n (effectTold ids x) l)
     unfolding noted
     known-noted l w =
-        each-append (Known (suc n)) (map (meeting n (did ids x)) l) (coming n (did ids x))
-        (each-map (Known n) (Known (suc n)) (meeting n (did ids x)) known-meeting l w) known-coming
+        each-append (Known (suc n)) (map (afterEffect n (effectTold ids x)) l) (newEntries n (effectTold ids x))
+        (each-map (Known n) (Known (suc n)) (afterEffect n (effectTold ids x)) known-after l w) known-new
 
   known : Each (Known (1 + length h)) (ledger ids h)
   known = by-events (λ n l. Each (Known n) l) (λ n x l there w. known-noted n x there l w) (each-none (Known 1))
@@ -204,19 +204,19 @@ EntryOf m a l = (k : ℕ) × (e : Entry) × (nth l k ≡ some e) × (e .accepted
 entry-stays : (m : ℕ) (a : Task) (l : List Entry) → EntryOf m a l → (n : ℕ) (f : Effect) → EntryOf m a (noted n f l)
 unfolding noted
 entry-stays m a l r n f =
-    let same = meeting-same n f (r .1) in
-    (r .0, meeting n f (r .1), nth-append (map (meeting n f) l) (coming n f) (r .0) (nth-map (meeting n f) l (r .0) (r .2)), same .0 ∙ r .3, same .1 ∙ r .4)
+    let same = effect-same n f (r .1) in
+    (r .0, afterEffect n f (r .1), nth-append (map (afterEffect n f) l) (newEntries n f) (r .0) (nth-map (afterEffect n f) l (r .0) (r .2)), same .0 ∙ r .3, same .1 ∙ r .4)
 
 entry-new : (n : ℕ) (a : Task) (l : List Entry) (f : Effect) → f ≡ Accepts a → waiting a ≡ a → EntryOf n a (noted n f l)
 unfolding noted
 entry-new n a l f e waits =
     subst (λ (f : Effect). EntryOf n a (noted n f l)) (sym e)
-    (length (map (meeting n (Accepts a)) l), newEntry n a, nth-last (map (meeting n (Accepts a)) l) (newEntry n a), refl, waits)
+    (length (map (afterEffect n (Accepts a)) l), newEntry n a, nth-last (map (afterEffect n (Accepts a)) l) (newEntry n a), refl, waits)
 
 module _ (ids : List ℕ) (h : List Told) where
   -- each event before n has entered what it accepted
   abbrev EnteredBefore : ℕ → List Entry → Type 0
-  EnteredBefore n l = (m : ℕ) (x : Told) (a : Task) → m < n → eventAt h m ≡ some x → did ids x ≡ Accepts a → EntryOf m a l
+  EnteredBefore n l = (m : ℕ) (x : Told) (a : Task) → m < n → eventAt h m ≡ some x → effectTold ids x ≡ Accepts a → EntryOf m a l
 
   none-before : EnteredBefore 1 []
   unfolding eventAt
@@ -225,8 +225,8 @@ module _ (ids : List ℕ) (h : List Told) where
 
   entered-kept : KeptByEvents ids h EnteredBefore
   entered-kept n x l here r m y a b there f = elim (below-suc b) [
-    | inl same ↦ let one : y ≡ x = cc in rw same (entry-new n a l (did ids x) (rw one at f) (accepts-waiting ids y a f))
-    | inr c ↦ entry-stays m a l (r m y a c there f) n (did ids x)
+    | inl same ↦ let one : y ≡ x = cc in rw same (entry-new n a l (effectTold ids x) (rw one at f) (accepts-waiting ids y a f))
+    | inr c ↦ entry-stays m a l (r m y a c there f) n (effectTold ids x)
   ]
 
   event-below : (n : ℕ) (x : Told) → eventAt h n ≡ some x → n < 1 + length h
@@ -234,7 +234,7 @@ module _ (ids : List ℕ) (h : List Told) where
   event-below zero x there = omega arith
   event-below (suc n) x there = omega (arith, nth-below h n there)
 
-  pub entered-in : (n : ℕ) (x : Told) (a : Task) → eventAt h n ≡ some x → did ids x ≡ Accepts a
+  pub entered-in : (n : ℕ) (x : Told) (a : Task) → eventAt h n ≡ some x → effectTold ids x ≡ Accepts a
       → (k : ℕ) × (e : Entry) × EntryAt ids h k e × (e .accepted ≡ n) × (waiting (e .task) ≡ a)
   entered-in n x a there f = by-events ids h EnteredBefore entered-kept none-before n x a (event-below n x there) there f
 
@@ -277,7 +277,7 @@ module _ (p : ℕ) where
   unfolding fateOf
   from-end s how own a = cond-ind (λ (x : Fate). isEnded x ≡ true → a .path ≡ p) (picks s a) (λ y _. own a y) (λ _ e. absurd (never e refl))
 
-own-message : (ids : List ℕ) (path tag : ℕ) (w : What) (a : Answer) → mayReachOthers w ≡ false
+own-message : (ids : List ℕ) (path tag : ℕ) (w : Request) (a : Answer) → mayReachOthers w ≡ false
     → EndsFrom (placeIn ids path) (messageEffect ids (By path tag w) a)
 own-message ids path tag (Command lun flags) a r =
     let p : ℕ = placeIn ids path in
@@ -294,8 +294,8 @@ own-message ids path tag (Confirm offset complete) a r =
 pub ends-its-own : EndsItsOwn
 ends-its-own ids h k e x m buf path tag w g i y there sent asked r =
     let c = caused-in ids h k e x g i in
-    let f : did ids (c .cause) ≡ messageEffect ids (By path tag w) (y .answer) =
-    ap (did ids) (same-element (c .there) there)
+    let f : effectTold ids (c .cause) ≡ messageEffect ids (By path tag w) (y .answer) =
+    ap (effectTold ids) (same-element (c .there) there)
     ∙ ap (λ (v : Event). effectOf ids v (y .answer)) sent
     ∙ ap (λ (q : Asked). messageEffect ids q (y .answer)) asked in
     own-message ids path tag w (y .answer) r (e .task) (ap (λ (f : Effect). isEnded (fateOf f (e .task))) (sym f) ∙ ap isEnded (c .effect))

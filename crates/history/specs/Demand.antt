@@ -17,12 +17,12 @@ use Rattle.plan.specs.Plans.{askedOf}
 use Rattle.engine.specs.Calls.{messageOf, startOf, finishOf, totalResetOf, setupOf, Answers}
 use Rattle.rules.specs.declared.manage.Order.{Order}
 use Rattle.rules.specs.declared.manage.Order.the-variants.{AbortTask, AbortTaskSet, ClearTaskSet, ClearAca, UnitReset, TargetReset}
-use Rattle.plan.specs.declared.What.{What}
-use Rattle.plan.specs.declared.What.the-variants.{Command, Manage, Confirm}
+use Rattle.plan.specs.declared.Request.{Request}
+use Rattle.plan.specs.declared.Request.the-variants.{Command, Manage, Confirm}
 use Rattle.plan.specs.declared.Asked.the-variants.{By}
 use Rattle.plan.specs.declared.Answer.the-variants.{Ready}
 use Rattle.engine.specs.declared.Outcome.{Outcome}
-use Rattle.history.specs.Trace.{Event, Message, Start, Finish, TotalReset, Told, nth, eventAt, isStatus, isManagement, isReset, Accepts, ended, fateOf, placeIn, did}
+use Rattle.history.specs.Trace.{Event, Message, Start, Finish, TotalReset, Told, nth, eventAt, countsAsStatus, countsAsManagement, countsAsReset, Accepts, ended, fateOf, placeIn, effectTold}
 use Rattle.history.specs.Ledger.{Ending, Entry, isOpen, timesEnded, ledger, countOf, Has, acceptedFrom, endedFrom}
 
 -- ---- calls
@@ -72,18 +72,18 @@ waiting a = acceptedAs (a .arrival) (a .path) (a .tag) (a .unit) (a .kind) (a .c
 pub record Came (ids : List ℕ) (h : List Told) (e : Entry) : Type 0 where
   pub cause : Told
   pub there : eventAt h (e .accepted) ≡ some cause
-  pub effect : did ids cause ≡ Accepts (waiting (e .task))
+  pub effect : effectTold ids cause ≡ Accepts (waiting (e .task))
 
 -- an ending's event is one of the trace, comes after the acceptance, and by its message or event and its answer it ends the command
 pub record Caused (ids : List ℕ) (h : List Told) (e : Entry) (x : Ending) : Type 0 where
   pub after : e .accepted < x .event
   pub cause : Told
   pub there : eventAt h (x .event) ≡ some cause
-  pub effect : fateOf (did ids cause) (e .task) ≡ ended (x .how)
+  pub effect : fateOf (effectTold ids cause) (e .task) ≡ ended (x .how)
 
 -- ended by status + ended by management + ended by reset + live records, for the path at p
 abbrev pub accountedFor : ℕ → List Entry → Table → ℕ
-accountedFor p l t = endedFrom isStatus p l + endedFrom isManagement p l + endedFrom isReset p l + liveOf p t
+accountedFor p l t = endedFrom countsAsStatus p l + endedFrom countsAsManagement p l + endedFrom countsAsReset p l + liveOf p t
 
 pub record Agrees (ids : List ℕ) (h : List Told) (t : Table) : Type 0 where
   -- 1. one live record for each open entry, with its path, tag, unit, kind and arrival number and all else, and no other live record
@@ -98,7 +98,7 @@ pub record Agrees (ids : List ℕ) (h : List Told) (t : Table) : Type 0 where
   pub once : (k : ℕ) (e : Entry) → EntryAt ids h k e → timesEnded e ≤ 1
   pub came : (k : ℕ) (e : Entry) → EntryAt ids h k e → Came ids h e
   pub caused : (k : ℕ) (e : Entry) (x : Ending) → EntryAt ids h k e → Has x (e .endings) → Caused ids h e x
-  pub entered : (n : ℕ) (x : Told) (a : Task) → eventAt h n ≡ some x → did ids x ≡ Accepts a
+  pub entered : (n : ℕ) (x : Told) (a : Task) → eventAt h n ≡ some x → effectTold ids x ≡ Accepts a
       → (k : ℕ) × (e : Entry) × EntryAt ids h k e × (e .accepted ≡ n) × (waiting (e .task) ≡ a)
   -- 3. for the path at each place of the list: accepted = ended by status + ended by management + ended by reset + live records
   pub balance : (p : ℕ) → acceptedFrom ids p h ≡ accountedFor p (ledger ids h) t
@@ -120,19 +120,19 @@ reachesOthers (ClearAca lun) = false
 reachesOthers (UnitReset lun) = true
 reachesOthers TargetReset = true
 
-abbrev pub mayReachOthers : What → Bool
+abbrev pub mayReachOthers : Request → Bool
 mayReachOthers (Command lun flags) = false
 mayReachOthers (Manage o) = reachesOthers o
 mayReachOthers (Confirm offset complete) = false
 
 -- in the ledger of any trace, whatever the tags: a command that is ended by another order was the sender's own
 abbrev pub EndsItsOwn : Type 0
-EndsItsOwn = (ids : List ℕ) (h : List Told) (k : ℕ) (e : Entry) (x : Ending) (m buf : List ℕ) (path tag : ℕ) (w : What)
+EndsItsOwn = (ids : List ℕ) (h : List Told) (k : ℕ) (e : Entry) (x : Ending) (m buf : List ℕ) (path tag : ℕ) (w : Request)
     → EntryAt ids h k e → Has x (e .endings) → (y : Told) → eventAt h (x .event) ≡ some y → y .event ≡ Message m buf → askedOf (readOf m) ≡ By path tag w
     → mayReachOthers w ≡ false → e .task .path ≡ placeIn ids path
 
 -- in the table: such a message leaves every live record of another path where it is and as it is
 abbrev pub OthersStay : Type 0
-OthersStay = (t : Table) (m buf : List ℕ) (o : Outcome) (left : List ℕ) (path tag : ℕ) (w : What)
+OthersStay = (t : Table) (m buf : List ℕ) (o : Outcome) (left : List ℕ) (path tag : ℕ) (w : Request)
     → Good t → Answers (messageOf t m (length buf)) buf o left → askedOf (readOf m) ≡ By path tag w → mayReachOthers w ≡ false
     → (i : ℕ) (a : Task) → i < 64 → at t i ≡ some a → (a .path ≡ pathOf t path → ⊥) → at (o .table) i ≡ some a

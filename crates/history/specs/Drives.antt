@@ -20,7 +20,7 @@ use Rattle.plan.specs.Plans.{askedOf}
 use Rattle.engine.specs.Calls.{messageOf, startOf, finishOf, totalResetOf, out}
 use Rattle.rules.specs.declared.manage.Order.{Order}
 use Rattle.rules.specs.declared.manage.Order.the-variants.{AbortTask, AbortTaskSet, ClearTaskSet, ClearAca, UnitReset, TargetReset}
-use Rattle.plan.specs.declared.What.the-variants.{Command, Manage, Confirm}
+use Rattle.plan.specs.declared.Request.the-variants.{Command, Manage, Confirm}
 use Rattle.plan.specs.declared.Asked.{Asked}
 use Rattle.plan.specs.declared.Asked.the-variants.{By, Unread}
 use Rattle.plan.specs.declared.Answer.the-variants as answer
@@ -86,11 +86,11 @@ goesByTag TotalReset t = engine TotalReset t
 abbrev pub fromOne : Table → Table
 fromOne t = record { live = t .live; next = 1; count = t .count; attached = t .attached; paths = t .paths; units = t .units; tasks = t .tasks }
 
-unfoldable pub restarts : Drive
-restarts (Message m buf) t = engine (Message m buf) t
-restarts (Start unit) t = engine (Start unit) t
-restarts (Finish arrival status sense transferred buf) t = engine (Finish arrival status sense transferred buf) t
-restarts TotalReset t = withTable (totalResetOf t) (fromOne (totalResetOf t .table))
+unfoldable pub numbersAnew : Drive
+numbersAnew (Message m buf) t = engine (Message m buf) t
+numbersAnew (Start unit) t = engine (Start unit) t
+numbersAnew (Finish arrival status sense transferred buf) t = engine (Finish arrival status sense transferred buf) t
+numbersAnew TotalReset t = withTable (totalResetOf t) (fromOne (totalResetOf t .table))
 
 -- every finish is answered by a STATUS
 unfoldable pub finishesAll : Drive
@@ -128,7 +128,7 @@ inventsLive ev t = withTable (engine ev t) (allLive (engine ev t .table))
 pub record WrongDrives : Type 0 where
   pub not-echoes : Demand3 (ByDrive echoes) → ⊥
   pub not-by-tag : Demand3 (ByDrive goesByTag) → ⊥
-  pub not-restarts : Demand3 (ByDrive restarts) → ⊥
+  pub not-numbers-anew : Demand3 (ByDrive numbersAnew) → ⊥
   pub not-finishes-all : Demand3 (ByDrive finishesAll) → ⊥
   pub not-loses : Demand3 (ByDrive losesTasks) → ⊥
   pub not-at-finish : Demand3 (ByDrive endsAtFinish) → ⊥

@@ -8,7 +8,7 @@ use lib.ListN.{length}
 use lib.Dec.{eqb}
 use Rattle.task.specs.Index.{one}
 use Rattle.task.specs.declared.Task.{Task}
-use Rattle.history.specs.Trace.{Told, nth, Label, isStatus, Effect, Nothing, Accepts, Starts, Finishes, Restarts, Ends, Fate, stays, becomes, ended, fateOf, did}
+use Rattle.history.specs.Trace.{Told, nth, Label, countsAsStatus, Effect, Nothing, Accepts, Starts, Finishes, Restarts, Ends, Fate, stays, becomes, ended, fateOf, effectTold}
 
 -- an ending: the number of the event, and how it ended the command
 pub record Ending : Type 0 where
@@ -42,31 +42,31 @@ newEntry n a = record { task = a; accepted = n; endings = [] }
 -- What a fate does to an entry. Only an open command goes on in another way, and only an open one is ended by management or reset. A finish or a confirmation names one command
 -- by its arrival number, and what it ends by status is an ending even where the command was ended before, whether it ran then or still waited: that this never happens is not
 -- built into the ledger, and the theorem says it.
-abbrev pub met : ℕ → Fate → Entry → Entry
-met n stays e = e
-met n (becomes a) e = cond (isOpen e) (record { task = a; accepted = e .accepted; endings = e .endings }) e
-met n (ended how) e =
-    cond (isOpen e || isStatus how) (record { task = e .task; accepted = e .accepted; endings = e .endings ++ (record { event = n; how = how } ∷ []) }) e
+abbrev pub afterFate : ℕ → Fate → Entry → Entry
+afterFate n stays e = e
+afterFate n (becomes a) e = cond (isOpen e) (record { task = a; accepted = e .accepted; endings = e .endings }) e
+afterFate n (ended how) e =
+    cond (isOpen e || countsAsStatus how) (record { task = e .task; accepted = e .accepted; endings = e .endings ++ (record { event = n; how = how } ∷ []) }) e
 
-unfoldable pub meeting : ℕ → Effect → Entry → Entry
-meeting n effect e = met n (fateOf effect (e .task)) e
+unfoldable pub afterEffect : ℕ → Effect → Entry → Entry
+afterEffect n effect e = afterFate n (fateOf effect (e .task)) e
 
 -- the entry of the command that is accepted, if one is
-abbrev pub coming : ℕ → Effect → List Entry
-coming n Nothing = []
-coming n (Accepts a) = newEntry n a ∷ []
-coming n (Starts arrival) = []
-coming n (Finishes arrival transferred) = []
-coming n (Restarts s offset) = []
-coming n (Ends s how) = []
+abbrev pub newEntries : ℕ → Effect → List Entry
+newEntries n Nothing = []
+newEntries n (Accepts a) = newEntry n a ∷ []
+newEntries n (Starts arrival) = []
+newEntries n (Finishes arrival transferred) = []
+newEntries n (Restarts s offset) = []
+newEntries n (Ends s how) = []
 
 unfoldable pub noted : ℕ → Effect → List Entry → List Entry
-noted n effect l = map (meeting n effect) l ++ coming n effect
+noted n effect l = map (afterEffect n effect) l ++ newEntries n effect
 
 -- the ledger l after further events, of which the first has number n
 unfoldable pub ledgerFrom : List ℕ → ℕ → List Entry → List Told → List Entry
 ledgerFrom ids n l [] = l
-ledgerFrom ids n l (x ∷ h) = ledgerFrom ids (suc n) (noted n (did ids x) l) h
+ledgerFrom ids n l (x ∷ h) = ledgerFrom ids (suc n) (noted n (effectTold ids x) l) h
 
 -- the ledger of a trace after a setup with these ids
 abbrev pub ledger : List ℕ → List Told → List Entry
@@ -100,7 +100,7 @@ acceptsFrom p (Ends s how) = false
 
 -- how many commands from the path at p a trace accepts: counted over its events, and not over the ledger
 abbrev pub acceptedFrom : List ℕ → ℕ → List Told → ℕ
-acceptedFrom ids p h = countOf (λ x. acceptsFrom p (did ids x)) h
+acceptedFrom ids p h = countOf (λ x. acceptsFrom p (effectTold ids x)) h
 
 -- how many endings that count the ledger has for commands from the path at p: a command that is ended twice counts twice
 abbrev pub endedFrom : (Label → Bool) → ℕ → List Entry → ℕ

@@ -20,7 +20,7 @@ use Rattle.rules.specs.Management.{endsOf}
 use Rattle.plan.specs.Plans.{askedOf, kindOf}
 use Rattle.rules.specs.declared.manage.Order.{Order}
 use Rattle.rules.specs.declared.manage.Order.the-variants.{AbortTask, AbortTaskSet, ClearTaskSet, ClearAca, UnitReset, TargetReset}
-use Rattle.plan.specs.declared.What.the-variants.{Command, Manage, Confirm}
+use Rattle.plan.specs.declared.Request.the-variants.{Command, Manage, Confirm}
 use Rattle.plan.specs.declared.Asked.{Asked}
 use Rattle.plan.specs.declared.Asked.the-variants.{By, Unread}
 use Rattle.plan.specs.declared.Answer.{Answer}
@@ -58,10 +58,10 @@ pub data Label : Type 0 where
   byStatus byTotalReset : Label
   byOrder : Order → Label
 
-abbrev pub isStatus : Label → Bool
-isStatus byStatus = true
-isStatus byTotalReset = false
-isStatus (byOrder o) = false
+abbrev pub countsAsStatus : Label → Bool
+countsAsStatus byStatus = true
+countsAsStatus byTotalReset = false
+countsAsStatus (byOrder o) = false
 
 -- LOGICAL UNIT RESET and TARGET RESET are resets, the other four orders are management
 abbrev pub resets : Order → Bool
@@ -72,15 +72,15 @@ resets (ClearAca lun) = false
 resets (UnitReset lun) = true
 resets TargetReset = true
 
-abbrev pub isManagement : Label → Bool
-isManagement byStatus = false
-isManagement byTotalReset = false
-isManagement (byOrder o) = cond (resets o) false true
+abbrev pub countsAsManagement : Label → Bool
+countsAsManagement byStatus = false
+countsAsManagement byTotalReset = false
+countsAsManagement (byOrder o) = cond (resets o) false true
 
-abbrev pub isReset : Label → Bool
-isReset byStatus = false
-isReset byTotalReset = true
-isReset (byOrder o) = resets o
+abbrev pub countsAsReset : Label → Bool
+countsAsReset byStatus = false
+countsAsReset byTotalReset = true
+countsAsReset (byOrder o) = resets o
 
 -- ---- what an event so answered does: nothing to the commands; it accepts one; it starts, or finishes after so many bytes, the one with an arrival number;
 -- it has what a selection picks wait again, to start at an offset; it ends what a selection picks
@@ -207,5 +207,5 @@ effectOf ids (Finish arrival status sense transferred buf) a = finishEffect arri
 effectOf ids TotalReset a = resetEffect a
 
 -- what an event of a trace did
-abbrev pub did : List ℕ → Told → Effect
-did ids x = effectOf ids (x .event) (x .answer)
+abbrev pub effectTold : List ℕ → Told → Effect
+effectTold ids x = effectOf ids (x .event) (x .answer)

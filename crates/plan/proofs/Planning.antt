@@ -23,21 +23,21 @@ use Rattle.task.specs.declared.select.Selection.{Selection}
 use Rattle.rules.specs.Rules.{deciding, decision}
 use Rattle.rules.specs.Management.{endsOf, orderCode}
 use Rattle.rules.specs.declared.rules.Facts.{Facts}
-use Rattle.rules.specs.declared.rules.Seen.{Seen}
-use Rattle.rules.specs.declared.rules.Mood.{Mood}
-use Rattle.rules.specs.declared.rules.Mood.the-variants.{Unmark}
+use Rattle.rules.specs.declared.rules.Lookup.{Lookup}
+use Rattle.rules.specs.declared.rules.SenderChange.{SenderChange}
+use Rattle.rules.specs.declared.rules.SenderChange.the-variants.{ClearMark}
 use Rattle.rules.specs.declared.rules.Ruling.{Ruling}
 use Rattle.rules.specs.declared.rules.Ruling.the-variants.{Refuse, Respond, Report, Invalid, Accept}
 use Rattle.rules.specs.declared.rules.Decision.{Decision}
 use Rattle.rules.specs.declared.manage.Order.{Order}
 use Rattle.rules.specs.declared.manage.Order.the-variants as order
 use Rattle.plan.specs.Plans.{askedOf, kindOf, planned, refusing, ruled, orderPlan, isAwaited, confirmPlan, planOf}
-use Rattle.plan.specs.declared.What.{What}
-use Rattle.plan.specs.declared.What.the-variants.{Command, Manage, Confirm}
+use Rattle.plan.specs.declared.Request.{Request}
+use Rattle.plan.specs.declared.Request.the-variants.{Command, Manage, Confirm}
 use Rattle.plan.specs.declared.Asked.{Asked}
 use Rattle.plan.specs.declared.Asked.the-variants.{By, Unread}
 use Rattle.plan.specs.declared.Change.the-variants as change
-use Rattle.plan.specs.declared.Deed.the-variants as deed
+use Rattle.plan.specs.declared.RecordChange.the-variants as records
 use Rattle.plan.specs.declared.Plan.{Plan}
 use Rattle.plan.specs.declared.Answer.the-variants as answer
 
@@ -99,27 +99,27 @@ module _ (next p tag lun : ℕ) (flags : Flags) {r : Ruling} where
   pub refuses : {n : Refusal} {pl : Plan} → r ≡ Refuse n → pl ≡ refusing n → pl ≡ ruled next p tag lun flags r
   refuses e h = rw e h
 
-  pub responds : {code : ReturnCode} {mood : Mood} → r ≡ Respond code mood → planned (answer.Response tag code) (change.Sender p mood) deed.Nothing ≡ ruled next p tag lun flags r
+  pub responds : {code : ReturnCode} {sender : SenderChange} → r ≡ Respond code sender → planned (answer.Response tag code) (change.OfSender p sender) records.Nothing ≡ ruled next p tag lun flags r
   responds e = rw e
 
-  pub reports : {status : StatusByte} {sense : Sense} {mood : Mood} → r ≡ Report status sense mood → planned (answer.Status tag status sense) (change.Sender p mood) deed.Nothing ≡ ruled next p tag lun flags r
+  pub reports : {status : StatusByte} {sense : Sense} {sender : SenderChange} → r ≡ Report status sense sender → planned (answer.Status tag status sense) (change.OfSender p sender) records.Nothing ≡ ruled next p tag lun flags r
   reports e = rw e
 
-  pub faults : {mood : Mood} → r ≡ Invalid mood → planned (answer.Invalid tag) (change.Sender p mood) deed.Nothing ≡ ruled next p tag lun flags r
+  pub faults : {sender : SenderChange} → r ≡ Invalid sender → planned (answer.Invalid tag) (change.OfSender p sender) records.Nothing ≡ ruled next p tag lun flags r
   faults e = rw e
 
-  pub takes : {k : Kind} → r ≡ Accept → k ≡ kindOf (flags .queue) → planned (answer.Accepted next) (change.Sender p Unmark) (deed.Accept p tag lun k (flags .confirm)) ≡ ruled next p tag lun flags r
+  pub takes : {k : Kind} → r ≡ Accept → k ≡ kindOf (flags .queue) → planned (answer.Accepted next) (change.OfSender p ClearMark) (records.Accept p tag lun k (flags .confirm)) ≡ ruled next p tag lun flags r
   takes e h = rw (e, h)
 
 pub ruleset ruled-cases = (refuses, responds, reports, faults, takes)
 
 -- an order, by its return code
 module _ (f : Facts) (p tag : ℕ) (m : List ℕ) (o : Order) {code : ReturnCode} (e : code ≡ orderCode f m o) where
-  pub done : {s : Selection} → s ≡ endsOf p o → code .0 ≡ Paper.done .0 → planned (answer.Response tag code) (change.Besides (f .losers) o) (deed.End s) ≡ orderPlan f p tag m o
+  pub done : {s : Selection} → s ≡ endsOf p o → code .0 ≡ Paper.done .0 → planned (answer.Response tag code) (change.ByOrder (f .others) o) (records.End s) ≡ orderPlan f p tag m o
   unfolding orderPlan
   done h k = rw (h, ← e, eq-eqb _ _ k)
 
-  pub not-done : {pl : Plan} → (code .0 ≡ Paper.done .0 → ⊥) → pl ≡ planned (answer.Response tag code) change.Nothing deed.Nothing → pl ≡ orderPlan f p tag m o
+  pub not-done : {pl : Plan} → (code .0 ≡ Paper.done .0 → ⊥) → pl ≡ planned (answer.Response tag code) change.Nothing records.Nothing → pl ≡ orderPlan f p tag m o
   unfolding orderPlan
   not-done k h = h ∙ rw (← e, ne-eqb _ _ k)
 
@@ -144,7 +144,7 @@ pub ruleset awaited-cases = (none-picked, still-waits, still-runs, awaits)
 
 -- a confirmation, test by test
 module _ (own : Pick) (p tag : ℕ) (m : List ℕ) (offset : ℕ) (complete : Bool) {b : Bool} (e : b ≡ reservedSet m) where
-  pub confirms-reserved : {pl : Plan} → b ≡ true → pl ≡ planned (answer.Response tag Paper.invalidField) change.Nothing deed.Nothing → pl ≡ confirmPlan own p tag m offset complete
+  pub confirms-reserved : {pl : Plan} → b ≡ true → pl ≡ planned (answer.Response tag Paper.invalidField) change.Nothing records.Nothing → pl ≡ confirmPlan own p tag m offset complete
   unfolding confirmPlan
   confirms-reserved h k = rw (← e, h) k
 
@@ -155,24 +155,24 @@ module _ (own : Pick) (p tag : ℕ) (m : List ℕ) (offset : ℕ) (complete : Bo
 
     module _ (i : not w ≡ false) where
       pub completes : {s : Selection} → complete ≡ true → s ≡ numberedAs (own .task .arrival) p tag
-          → planned (answer.Confirmed (own .task .arrival)) change.Nothing (deed.End s) ≡ confirmPlan own p tag m offset complete
+          → planned (answer.Confirmed (own .task .arrival)) change.Nothing (records.End s) ≡ confirmPlan own p tag m offset complete
       unfolding confirmPlan
       completes j k = rw (k, ← e, h, ← a, i, j)
 
-      pub confirms-past : {pl : Plan} → complete ≡ false → own .task .transferred < offset → pl ≡ planned (answer.Response tag Paper.invalidField) change.Nothing deed.Nothing
+      pub confirms-past : {pl : Plan} → complete ≡ false → own .task .transferred < offset → pl ≡ planned (answer.Response tag Paper.invalidField) change.Nothing records.Nothing
           → pl ≡ confirmPlan own p tag m offset complete
       unfolding confirmPlan
       confirms-past j l k = rw (← e, h, ← a, i, j, lt-ltb _ _ l) k
 
       pub restarts : complete ≡ false → offset ≤ own .task .transferred
-          → planned (answer.Restarted (own .task .arrival)) change.Nothing (deed.Restart (own .at) offset) ≡ confirmPlan own p tag m offset complete
+          → planned (answer.Restarted (own .task .arrival)) change.Nothing (records.Restart (own .at) offset) ≡ confirmPlan own p tag m offset complete
       unfolding confirmPlan
       restarts j l = rw (← e, h, ← a, i, j, le-ltb _ _ l)
 
 pub ruleset confirm-cases = (confirms-reserved, confirms-none, completes, confirms-past, restarts)
 
 -- what is asked
-module _ (s : Seen) (next p tag : ℕ) (m : List ℕ) {w : What} {pl : Plan} where
+module _ (s : Lookup) (next p tag : ℕ) (m : List ℕ) {w : Request} {pl : Plan} where
   pub by-rules : {lun : ℕ} {flags : Flags} {d : Decision} → w ≡ Command lun flags → d ≡ decision (deciding (s .facts) flags m) → pl ≡ ruled next p tag lun flags (d .ruling) → pl ≡ planOf s next p tag m w
   by-rules e h k = rw e (rw h at k)
 

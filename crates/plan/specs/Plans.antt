@@ -15,27 +15,27 @@ use Rattle.task.specs.Selections.{numberedAs}
 use Rattle.task.specs.declared.scan.Pick.{Pick}
 use Rattle.task.specs.declared.Kind.{Kind}
 use Rattle.task.specs.declared.Kind.the-variants as kind
-use Rattle.table.specs.Tables.{markedIn, attendedIn}
+use Rattle.table.specs.Tables.{markedIn, attentionGoneIn}
 use Rattle.table.specs.declared.Path as path
 use Rattle.table.specs.declared.Unit as unit
 use Rattle.rules.specs.Rules.{deciding}
 use Rattle.rules.specs.Management.{endsOf, tagOf, unitOf, isClearSet, orderCode, orderPaths, orderUnits}
 use Rattle.rules.specs.declared.rules.Facts.{Facts}
-use Rattle.rules.specs.declared.rules.Seen.{Seen}
-use Rattle.rules.specs.declared.rules.Mood.{Mood}
-use Rattle.rules.specs.declared.rules.Mood.the-variants.{Stay, Mark, Unmark, Attend}
+use Rattle.rules.specs.declared.rules.Lookup.{Lookup}
+use Rattle.rules.specs.declared.rules.SenderChange.{SenderChange}
+use Rattle.rules.specs.declared.rules.SenderChange.the-variants.{Stays, SetMark, ClearMark, ClearMarkAndAttention}
 use Rattle.rules.specs.declared.rules.Ruling.{Ruling}
 use Rattle.rules.specs.declared.rules.Ruling.the-variants.{Refuse, Respond, Report, Invalid, Accept}
 use Rattle.rules.specs.declared.manage.Order.{Order}
 use Rattle.rules.specs.declared.manage.Order.the-variants as order
-use Rattle.plan.specs.declared.What.{What}
-use Rattle.plan.specs.declared.What.the-variants.{Command, Manage, Confirm}
+use Rattle.plan.specs.declared.Request.{Request}
+use Rattle.plan.specs.declared.Request.the-variants.{Command, Manage, Confirm}
 use Rattle.plan.specs.declared.Asked.{Asked}
 use Rattle.plan.specs.declared.Asked.the-variants.{By, Unread}
 use Rattle.plan.specs.declared.Change.{Change}
 use Rattle.plan.specs.declared.Change.the-variants as change
-use Rattle.plan.specs.declared.Deed.{Deed}
-use Rattle.plan.specs.declared.Deed.the-variants as deed
+use Rattle.plan.specs.declared.RecordChange.{RecordChange}
+use Rattle.plan.specs.declared.RecordChange.the-variants as records
 use Rattle.plan.specs.declared.Plan.{Plan}
 use Rattle.plan.specs.declared.Answer.{Answer}
 use Rattle.plan.specs.declared.Answer.the-variants as answer
@@ -55,17 +55,17 @@ askedOf (message.UnitReset tag path lun) = By path tag (Manage (order.UnitReset 
 askedOf (message.Refused n) = Unread n
 
 -- the tag and the unit that are asked about: the message's own, or those that an order names; 0 where there is no unit
-abbrev pub tagAsked : ℕ → What → ℕ
+abbrev pub tagAsked : ℕ → Request → ℕ
 tagAsked tag (Command lun flags) = tag
 tagAsked tag (Manage o) = tagOf o
 tagAsked tag (Confirm offset complete) = tag
 
-abbrev pub unitAsked : What → ℕ
+abbrev pub unitAsked : Request → ℕ
 unitAsked (Command lun flags) = lun
 unitAsked (Manage o) = unitOf o
 unitAsked (Confirm offset complete) = 0
 
-abbrev pub clearsSet : What → Bool
+abbrev pub clearsSet : Request → Bool
 clearsSet (Command lun flags) = false
 clearsSet (Manage o) = isClearSet o
 clearsSet (Confirm offset complete) = false
@@ -78,27 +78,27 @@ kindOf q =
 
 -- ---- the plan
 
-abbrev pub planned : Answer → Change → Deed → Plan
-planned a c d = record { answer = a; change = c; deed = d }
+abbrev pub planned : Answer → Change → RecordChange → Plan
+planned a c d = record { answer = a; change = c; records = d }
 
 -- a refusal changes nothing
 abbrev pub refusing : Refusal → Plan
-refusing n = planned (answer.Refused n) change.Nothing deed.Nothing
+refusing n = planned (answer.Refused n) change.Nothing records.Nothing
 
 -- a ruling on a command of the path at p with a TAG, a LUN and flags, under the next arrival number
 abbrev pub ruled : ℕ → ℕ → ℕ → ℕ → Flags → Ruling → Plan
 ruled next p tag lun flags (Refuse n) = refusing n
-ruled next p tag lun flags (Respond code mood) = planned (answer.Response tag code) (change.Sender p mood) deed.Nothing
-ruled next p tag lun flags (Report status sense mood) = planned (answer.Status tag status sense) (change.Sender p mood) deed.Nothing
-ruled next p tag lun flags (Invalid mood) = planned (answer.Invalid tag) (change.Sender p mood) deed.Nothing
-ruled next p tag lun flags Accept = planned (answer.Accepted next) (change.Sender p Unmark) (deed.Accept p tag lun (kindOf (flags .queue)) (flags .confirm))
+ruled next p tag lun flags (Respond code sender) = planned (answer.Response tag code) (change.OfSender p sender) records.Nothing
+ruled next p tag lun flags (Report status sense sender) = planned (answer.Status tag status sense) (change.OfSender p sender) records.Nothing
+ruled next p tag lun flags (Invalid sender) = planned (answer.Invalid tag) (change.OfSender p sender) records.Nothing
+ruled next p tag lun flags Accept = planned (answer.Accepted next) (change.OfSender p ClearMark) (records.Accept p tag lun (kindOf (flags .queue)) (flags .confirm))
 
 -- an order of the path at p changes the table only where it is answered 00h
 unfoldable pub orderPlan : Facts → ℕ → ℕ → List ℕ → Order → Plan
 orderPlan f p tag m o =
     cond (eqb (orderCode f m o .0) (Paper.done .0))
-    (planned (answer.Response tag (orderCode f m o)) (change.Besides (f .losers) o) (deed.End (endsOf p o)))
-    (planned (answer.Response tag (orderCode f m o)) change.Nothing deed.Nothing)
+    (planned (answer.Response tag (orderCode f m o)) (change.ByOrder (f .others) o) (records.End (endsOf p o)))
+    (planned (answer.Response tag (orderCode f m o)) change.Nothing records.Nothing)
 
 -- the sender's task with the tag waits to be confirmed: a waiting or running one does not
 abbrev pub isAwaited : Pick → Bool
@@ -108,13 +108,13 @@ isAwaited own = own .found && isUnconfirmed (own .task .phase)
 -- COMPLETE clear: an offset past the bytes transferred gives FFh; else the task waits again, to start there. Neither the mark nor the attention of the sender is looked at
 unfoldable pub confirmPlan : Pick → ℕ → ℕ → List ℕ → ℕ → Bool → Plan
 confirmPlan own p tag m offset complete =
-    cond (reservedSet m) (planned (answer.Response tag Paper.invalidField) change.Nothing deed.Nothing)
+    cond (reservedSet m) (planned (answer.Response tag Paper.invalidField) change.Nothing records.Nothing)
     (cond (not (isAwaited own)) (refusing Paper.nothingToConfirm)
-    (cond complete (planned (answer.Confirmed (own .task .arrival)) change.Nothing (deed.End (numberedAs (own .task .arrival) p tag)))
-    (cond (ltb (own .task .transferred) offset) (planned (answer.Response tag Paper.invalidField) change.Nothing deed.Nothing)
-    (planned (answer.Restarted (own .task .arrival)) change.Nothing (deed.Restart (own .at) offset)))))
+    (cond complete (planned (answer.Confirmed (own .task .arrival)) change.Nothing (records.End (numberedAs (own .task .arrival) p tag)))
+    (cond (ltb (own .task .transferred) offset) (planned (answer.Response tag Paper.invalidField) change.Nothing records.Nothing)
+    (planned (answer.Restarted (own .task .arrival)) change.Nothing (records.Restart (own .at) offset)))))
 
-abbrev pub planOf : Seen → ℕ → ℕ → ℕ → List ℕ → What → Plan
+abbrev pub planOf : Lookup → ℕ → ℕ → ℕ → List ℕ → Request → Plan
 planOf s next p tag m (Command lun flags) = ruled next p tag lun flags (deciding (s .facts) flags m .gives)
 planOf s next p tag m (Manage o) = orderPlan (s .facts) p tag m o
 planOf s next p tag m (Confirm offset complete) = confirmPlan (s .own) p tag m offset complete
@@ -122,18 +122,18 @@ planOf s next p tag m (Confirm offset complete) = confirmPlan (s .own) p tag m o
 -- ---- what a change does to paths and units
 
 -- a command's answer and the sender's mark and attention: the mark is cleared once rule 2 is passed; attention that was reported becomes none
-abbrev pub inMood : List path.Path → ℕ → Mood → List path.Path
-inMood paths p Stay = paths
-inMood paths p Mark = markedIn paths p true
-inMood paths p Unmark = markedIn paths p false
-inMood paths p Attend = attendedIn (markedIn paths p false) p
+abbrev pub senderAfter : List path.Path → ℕ → SenderChange → List path.Path
+senderAfter paths p Stays = paths
+senderAfter paths p SetMark = markedIn paths p true
+senderAfter paths p ClearMark = markedIn paths p false
+senderAfter paths p ClearMarkAndAttention = attentionGoneIn (markedIn paths p false) p
 
 abbrev pub pathsAfter : List path.Path → ℕ → Change → List path.Path
 pathsAfter paths count change.Nothing = paths
-pathsAfter paths count (change.Sender p mood) = inMood paths p mood
-pathsAfter paths count (change.Besides losers o) = orderPaths paths count losers o
+pathsAfter paths count (change.OfSender p sender) = senderAfter paths p sender
+pathsAfter paths count (change.ByOrder others o) = orderPaths paths count others o
 
 abbrev pub unitsAfter : List unit.Unit → Change → List unit.Unit
 unitsAfter units change.Nothing = units
-unitsAfter units (change.Sender p mood) = units
-unitsAfter units (change.Besides losers o) = orderUnits units o
+unitsAfter units (change.OfSender p sender) = units
+unitsAfter units (change.ByOrder others o) = orderUnits units o

@@ -6,17 +6,17 @@ use Rattle.wire.specs.declared.message.Message.{Message}
 use Rattle.task.specs.Promises.{One}
 use Rattle.table.specs.declared.Path as path
 use Rattle.table.specs.declared.Unit as unit
-use Rattle.rules.specs.declared.rules.Seen.{Seen}
+use Rattle.rules.specs.declared.rules.Lookup.{Lookup}
 use Rattle.plan.specs.Plans.{askedOf, tagAsked, unitAsked, clearsSet, refusing, planOf, pathsAfter, unitsAfter}
-use Rattle.plan.specs.declared.What.{What}
+use Rattle.plan.specs.declared.Request.{Request}
 use Rattle.plan.specs.declared.Change.{Change}
 
 pub record AnswersAreOne : Type 0 where
   pub ask : (g : Message) → One (askedOf g)
-  pub tag-asked : (tag : ℕ) (w : What) → One (tagAsked tag w)
-  pub unit-asked : (w : What) → One (unitAsked w)
-  pub clears-set : (w : What) → One (clearsSet w)
+  pub tag-asked : (tag : ℕ) (w : Request) → One (tagAsked tag w)
+  pub unit-asked : (w : Request) → One (unitAsked w)
+  pub clears-set : (w : Request) → One (clearsSet w)
   pub refuse : (n : Refusal) → One (refusing n)
-  pub find-plan : (s : Seen) (next p tag : ℕ) (m : List ℕ) (w : What) → One (planOf s next p tag m w)
+  pub find-plan : (s : Lookup) (next p tag : ℕ) (m : List ℕ) (w : Request) → One (planOf s next p tag m w)
   pub change-paths : (paths : List path.Path) (count : ℕ) (c : Change) → One (pathsAfter paths count c)
   pub change-units : (units : List unit.Unit) (c : Change) → One (unitsAfter units c)

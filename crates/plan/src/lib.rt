@@ -1,12 +1,12 @@
 // The plan: what a message asks, the answer to it, and what that does to the table. No table travels here.
 ghost use mathlib.Core.Path.{_≡_};
 ghost use Rattle.task.specs.Selections.{numberedAs};
-ghost use Rattle.plan.specs.Plans.{askedOf, tagAsked, unitAsked, clearsSet, kindOf, planned, refusing, ruled, orderPlan, isAwaited, confirmPlan, planOf, inMood, pathsAfter, unitsAfter};
+ghost use Rattle.plan.specs.Plans.{askedOf, tagAsked, unitAsked, clearsSet, kindOf, planned, refusing, ruled, orderPlan, isAwaited, confirmPlan, planOf, senderAfter, pathsAfter, unitsAfter};
 use rules::manage::Order;
 use rules::rules::Facts;
-use rules::rules::Mood;
+use rules::rules::SenderChange;
 use rules::rules::Ruling;
-use rules::rules::Seen;
+use rules::rules::Lookup;
 use table::Path;
 use table::Unit;
 use task::Kind;
@@ -24,7 +24,7 @@ use wire::message::Flags;
 use wire::message::Message;
 
 // What is asked for: a command's queueing, an order, or what is to become of a task that waits to be confirmed.
-pub enum What {
+pub enum Request {
     Command { lun: u8, flags: Flags },
     Manage(Order),
     Confirm { offset: u32, complete: bool },
@@ -32,7 +32,7 @@ pub enum What {
 
 // Who asks for it, under which tag; or why nothing is heard.
 pub enum Asked {
-    By { path: u32, tag: u16, what: What },
+    By { path: u32, tag: u16, request: Request },
     Unread(Refusal),
 }
 
@@ -41,13 +41,13 @@ pub enum Change {
     // All stay.
     Nothing,
     // A command is answered: the mark and attention of its sender, the path at a place.
-    Sender(u8, Mood),
+    OfSender(u8, SenderChange),
     // An order is carried out: what it does besides ending tasks, with the map of the other paths that lose one.
-    Besides(u8, Order),
+    ByOrder(u8, Order),
 }
 
 // What happens to the records.
-pub enum Deed {
+pub enum RecordChange {
     // Every record stays.
     Nothing,
     // A command is accepted, waiting: a new task of the path at a place takes the lowest-numbered free record.
@@ -97,16 +97,16 @@ pub enum Answer {
 pub struct Plan {
     pub answer: Answer,
     pub change: Change,
-    pub deed: Deed,
+    pub records: RecordChange,
 }
 
 fn order(path: u32, tag: u16, o: Order) -> Asked
-    ensures { λ r. ⌜ r ≡ Asked.By path tag (What.Manage o) ⌝ }
+    ensures { λ r. ⌜ r ≡ Asked.By path tag (Request.Manage o) ⌝ }
 {
     Asked::By {
         path,
         tag,
-        what: What::Manage(o),
+        request: Request::Manage(o),
     }
 }
 
@@ -123,7 +123,7 @@ pub fn ask(g: Message) -> Asked
         } => Asked::By {
             path,
             tag,
-            what: What::Command { lun, flags },
+            request: Request::Command { lun, flags },
         },
         Message::ConfirmStatus {
             tag,
@@ -134,7 +134,7 @@ pub fn ask(g: Message) -> Asked
         } => Asked::By {
             path,
             tag,
-            what: What::Confirm { offset, complete },
+            request: Request::Confirm { offset, complete },
         },
         Message::AbortTask { tag, path, tag2 } => order(path, tag, Order::AbortTask(tag2)),
         Message::AbortTaskSet { tag, path, lun } => order(path, tag, Order::AbortTaskSet(lun)),
@@ -147,26 +147,26 @@ pub fn ask(g: Message) -> Asked
 }
 
 // The tag and the unit that are asked about: the message's own, or those that an order names.
-pub fn tag_asked(tag: u16, w: What) -> u16
+pub fn tag_asked(tag: u16, w: Request) -> u16
     ensures { λ r. ⌜ r ≡ tagAsked tag w ⌝ }
 {
     match w {
-        What::Command { lun: _, flags: _ } => tag,
-        What::Manage(o) => rules::manage::tag_of(o),
-        What::Confirm {
+        Request::Command { lun: _, flags: _ } => tag,
+        Request::Manage(o) => rules::manage::tag_of(o),
+        Request::Confirm {
             offset: _,
             complete: _,
         } => tag,
     }
 }
 
-pub fn unit_asked(w: What) -> u8
+pub fn unit_asked(w: Request) -> u8
     ensures { λ r. ⌜ r ≡ unitAsked w ⌝ }
 {
     match w {
-        What::Command { lun, flags: _ } => lun,
-        What::Manage(o) => rules::manage::unit_of(o),
-        What::Confirm {
+        Request::Command { lun, flags: _ } => lun,
+        Request::Manage(o) => rules::manage::unit_of(o),
+        Request::Confirm {
             offset: _,
             complete: _,
         } => 0,
@@ -174,13 +174,13 @@ pub fn unit_asked(w: What) -> u8
 }
 
 // Whether CLEAR TASK SET is asked for: the only one that asks who loses a task.
-pub fn clears_set(w: What) -> bool
+pub fn clears_set(w: Request) -> bool
     ensures { λ r. ⌜ r ≡ clearsSet w ⌝ }
 {
     match w {
-        What::Command { lun: _, flags: _ } => false,
-        What::Manage(o) => rules::manage::clears_set(o),
-        What::Confirm {
+        Request::Command { lun: _, flags: _ } => false,
+        Request::Manage(o) => rules::manage::clears_set(o),
+        Request::Confirm {
             offset: _,
             complete: _,
         } => false,
@@ -204,12 +204,12 @@ fn kind_of(q: Queue) -> Kind
 
 // An answer that leaves the table as it is.
 fn tell(answer: Answer) -> Plan
-    ensures { λ r. ⌜ r ≡ planned answer Change.Nothing Deed.Nothing ⌝ }
+    ensures { λ r. ⌜ r ≡ planned answer Change.Nothing RecordChange.Nothing ⌝ }
 {
     Plan {
         answer,
         change: Change::Nothing,
-        deed: Deed::Nothing,
+        records: RecordChange::Nothing,
     }
 }
 
@@ -226,28 +226,28 @@ fn rule(next: u64, p: u8, tag: u16, lun: u8, flags: Flags, r: Ruling) -> Plan
 {
     match r {
         Ruling::Refuse(n) => refuse(n),
-        Ruling::Respond(code, mood) => Plan {
+        Ruling::Respond(code, sender) => Plan {
             answer: Answer::Response { tag, code },
-            change: Change::Sender(p, mood),
-            deed: Deed::Nothing,
+            change: Change::OfSender(p, sender),
+            records: RecordChange::Nothing,
         },
-        Ruling::Report(status, sense, mood) => Plan {
+        Ruling::Report(status, sense, sender) => Plan {
             answer: Answer::Status { tag, status, sense },
-            change: Change::Sender(p, mood),
-            deed: Deed::Nothing,
+            change: Change::OfSender(p, sender),
+            records: RecordChange::Nothing,
         },
-        Ruling::Invalid(mood) => Plan {
+        Ruling::Invalid(sender) => Plan {
             answer: Answer::Invalid { tag },
-            change: Change::Sender(p, mood),
-            deed: Deed::Nothing,
+            change: Change::OfSender(p, sender),
+            records: RecordChange::Nothing,
         },
         Ruling::Accept => {
             let queue = flags.queue;
             let kind = kind_of(queue);
             Plan {
                 answer: Answer::Accepted(next),
-                change: Change::Sender(p, Mood::Unmark),
-                deed: Deed::Accept {
+                change: Change::OfSender(p, SenderChange::ClearMark),
+                records: RecordChange::Accept {
                     path: p,
                     tag,
                     lun,
@@ -268,8 +268,8 @@ fn plan_order(f: Facts, p: u8, tag: u16, m: &[u8], o: Order) -> Plan
     if code.0 == ReturnCode::DONE.0 {
         return Plan {
             answer,
-            change: Change::Besides(f.losers, o),
-            deed: Deed::End(rules::manage::ends(p, o)),
+            change: Change::ByOrder(f.others, o),
+            records: RecordChange::End(rules::manage::ends(p, o)),
         };
     }
     tell(answer)
@@ -321,7 +321,7 @@ fn plan_confirm(own: Pick, p: u8, tag: u16, m: &[u8], offset: u32, complete: boo
         return Plan {
             answer: Answer::Confirmed(arrival),
             change: Change::Nothing,
-            deed: Deed::End(numbered(arrival, p, tag)),
+            records: RecordChange::End(numbered(arrival, p, tag)),
         };
     }
     if offset as u64 > task.transferred {
@@ -330,7 +330,7 @@ fn plan_confirm(own: Pick, p: u8, tag: u16, m: &[u8], offset: u32, complete: boo
     Plan {
         answer: Answer::Restarted(arrival),
         change: Change::Nothing,
-        deed: Deed::Restart {
+        records: RecordChange::Restart {
             place: own.at,
             offset,
         },
@@ -338,32 +338,32 @@ fn plan_confirm(own: Pick, p: u8, tag: u16, m: &[u8], offset: u32, complete: boo
 }
 
 // The plan for what the path at p asks with a tag, from what was seen of the table and the next arrival number.
-pub fn find_plan(s: Seen, next: u64, p: u8, tag: u16, m: &[u8], w: What) -> Plan
+pub fn find_plan(s: Lookup, next: u64, p: u8, tag: u16, m: &[u8], w: Request) -> Plan
     ensures { λ r. ⌜ r ≡ planOf s next p tag (now (m .entry)) w ⌝ }
 {
     let f = s.facts;
     let own = s.own;
     match w {
-        What::Command { lun, flags } => {
+        Request::Command { lun, flags } => {
             let d = rules::rules::decide(f, flags, m);
             let r = d.ruling;
             rule(next, p, tag, lun, flags, r)
         }
-        What::Manage(o) => plan_order(f, p, tag, m, o),
-        What::Confirm { offset, complete } => plan_confirm(own, p, tag, m, offset, complete),
+        Request::Manage(o) => plan_order(f, p, tag, m, o),
+        Request::Confirm { offset, complete } => plan_confirm(own, p, tag, m, offset, complete),
     }
 }
 
 // The sender's mark and attention, by the mood of the answer.
-fn set_mood(paths: [Path; 8], p: u8, mood: Mood) -> [Path; 8]
-    ensures { λ r. ⌜ r ≡ inMood paths p mood ⌝ }
+fn change_sender(paths: [Path; 8], p: u8, sender: SenderChange) -> [Path; 8]
+    ensures { λ r. ⌜ r ≡ senderAfter paths p sender ⌝ }
 {
     let at = p as usize;
-    match mood {
-        Mood::Stay => paths,
-        Mood::Mark => table::paths::mark(paths, at, true),
-        Mood::Unmark => table::paths::mark(paths, at, false),
-        Mood::Attend => table::paths::attend(table::paths::mark(paths, at, false), at),
+    match sender {
+        SenderChange::Stays => paths,
+        SenderChange::SetMark => table::paths::mark(paths, at, true),
+        SenderChange::ClearMark => table::paths::mark(paths, at, false),
+        SenderChange::ClearMarkAndAttention => table::paths::drop_attention(table::paths::mark(paths, at, false), at),
     }
 }
 
@@ -373,8 +373,8 @@ pub fn change_paths(paths: [Path; 8], count: u8, c: Change) -> [Path; 8]
 {
     match c {
         Change::Nothing => paths,
-        Change::Sender(p, mood) => set_mood(paths, p, mood),
-        Change::Besides(losers, o) => rules::manage::change_paths(paths, count, losers, o),
+        Change::OfSender(p, sender) => change_sender(paths, p, sender),
+        Change::ByOrder(others, o) => rules::manage::change_paths(paths, count, others, o),
     }
 }
 
@@ -384,7 +384,7 @@ pub fn change_units(units: [Unit; 8], c: Change) -> [Unit; 8]
 {
     match c {
         Change::Nothing => units,
-        Change::Sender(_, _) => units,
-        Change::Besides(_, o) => rules::manage::change_units(units, o),
+        Change::OfSender(_, _) => units,
+        Change::ByOrder(_, o) => rules::manage::change_units(units, o),
     }
 }

@@ -13,14 +13,14 @@ use Rattle.wire.specs.Block.{opcode}
 use Rattle.wire.specs.declared.codes.ReturnCode.{ReturnCode}
 use Rattle.wire.specs.declared.message.Flags.{Flags}
 use Rattle.task.specs.Selections.{named, acaOn}
-use Rattle.table.specs.Tables.{pathAt, unitAt, isAttached, hasRoom, losersOf, pickOf}
+use Rattle.table.specs.Tables.{pathAt, unitAt, isAttached, hasRoom, othersOn, pickOf}
 use Rattle.table.specs.Sound.{ownedBy}
 use Rattle.table.specs.declared.Path as path
 use Rattle.table.specs.declared.Unit as unit
 use Rattle.task.specs.declared.scan.Pick.{Pick}
 use Rattle.table.specs.declared.Table.{Table}
 use Rattle.rules.specs.First.{Rule, rule, firstThat}
-use Rattle.rules.specs.Rules.{hasAca, factsOf, seenOf, asksAca, barred, passesAttention, decided, decision}
+use Rattle.rules.specs.Rules.{hasAca, factsOf, lookupOf, asksAca, keptOutByAca, passesAttention, decided, decision}
 use Rattle.rules.specs.Management.{hasUnit, carriedCode, orderCode}
 use Rattle.rules.specs.declared.rules.Facts.{Facts}
 use Rattle.rules.specs.declared.rules.Ruling.{Ruling}
@@ -30,16 +30,16 @@ use Rattle.rules.specs.declared.manage.Order.{Order}
 -- ---- what is asked of the table
 
 module _ (t : Table) (p lun : ℕ) {clears : Bool} {n : ℕ} where
-  pub losers-asked : {k : ℕ} → n ≡ k → k ≡ losersOf t lun p → clears ≡ true → n ≡ cond clears (losersOf t lun p) 0
-  losers-asked e h a = e ∙ rw (h, a)
+  pub others-asked : {k : ℕ} → n ≡ k → k ≡ othersOn t lun p → clears ≡ true → n ≡ cond clears (othersOn t lun p) 0
+  others-asked e h a = e ∙ rw (h, a)
 
-  pub nobody-asked : n ≡ 0 → clears ≡ false → n ≡ cond clears (losersOf t lun p) 0
+  pub nobody-asked : n ≡ 0 → clears ≡ false → n ≡ cond clears (othersOn t lun p) 0
   nobody-asked e a = e ∙ rw a
 
-module _ (t : Table) (p tag lun : ℕ) (clears : Bool) {s : path.Path} {u : unit.Unit} {own rival : Pick} {room attached aca owned : Bool} {losers : ℕ} where
-  pub looked :
+module _ (t : Table) (p tag lun : ℕ) (clears : Bool) {s : path.Path} {u : unit.Unit} {own rival : Pick} {room attached aca owned : Bool} {others : ℕ} where
+  pub looked-up :
       s ≡ pathAt t p → u ≡ unitAt t lun → own ≡ pickOf t (named p tag) → rival ≡ pickOf t (acaOn lun) → room ≡ hasRoom t → attached ≡ isAttached t lun → aca ≡ hasAca (u .aca)
-      → owned ≡ ownedBy (u .aca) p → losers ≡ cond clears (losersOf t lun p) 0
+      → owned ≡ ownedBy (u .aca) p → others ≡ cond clears (othersOn t lun p) 0
       → record {
         facts = record {
           marked = s .full;
@@ -50,38 +50,38 @@ module _ (t : Table) (p tag lun : ℕ) (clears : Bool) {s : path.Path} {u : unit
           aca = aca;
           owned = owned;
           busy = rival .found;
-          losers = losers;
+          others = others;
         };
         own = own;
       }
-      ≡ seenOf t p tag lun clears
-  unfolding factsOf seenOf
-  looked e h a b c d f g k = rw (a, b, c, d, f, g, k, e, h)
+      ≡ lookupOf t p tag lun clears
+  unfolding factsOf lookupOf
+  looked-up e h a b c d f g k = rw (a, b, c, d, f, g, k, e, h)
 
-pub ruleset look-cases = (looked, losers-asked, nobody-asked)
+pub ruleset look-up-cases = (looked-up, others-asked, nobody-asked)
 
 -- ---- the unit's ACA keeps a command out
 
 module _ (f : Facts) (g : Flags) where
-  pub no-aca : not (f .aca) ≡ true → false ≡ barred f g
-  unfolding barred
+  pub no-aca : not (f .aca) ≡ true → false ≡ keptOutByAca f g
+  unfolding keptOutByAca
   no-aca h = rw (not-true (f .aca) h)
 
   module _ (a : not (f .aca) ≡ false) where
-    pub not-owned : not (f .owned) ≡ true → true ≡ barred f g
-    unfolding barred
+    pub not-owned : not (f .owned) ≡ true → true ≡ keptOutByAca f g
+    unfolding keptOutByAca
     not-owned h = rw (not-false (f .aca) a, not-true (f .owned) h)
 
     module _ (o : not (f .owned) ≡ false) {k : Bool} (e : k ≡ asksAca g) where
-      pub other-kind : not k ≡ true → true ≡ barred f g
-      unfolding barred
+      pub other-kind : not k ≡ true → true ≡ keptOutByAca f g
+      unfolding keptOutByAca
       other-kind h = rw (not-false (f .aca) a, not-false (f .owned) o, ← e, not-true k h)
 
-      pub owner-asks : not k ≡ false → f .busy ≡ barred f g
-      unfolding barred
+      pub owner-asks : not k ≡ false → f .busy ≡ keptOutByAca f g
+      unfolding keptOutByAca
       owner-asks h = rw (not-false (f .aca) a, not-false (f .owned) o, ← e, not-false k h) (sym (Bool·not-not (f .busy)))
 
-pub ruleset barred-cases = (no-aca, not-owned, other-kind, owner-asks)
+pub ruleset kept-out-cases = (no-aca, not-owned, other-kind, owner-asks)
 
 -- ---- the commands that go past a pending attention
 

@@ -24,9 +24,9 @@ given-meets test (r ∷ rs) last h e =
 
 abbrev pub notAccept : Ruling → Bool
 notAccept (Refuse n) = true
-notAccept (Respond code mood) = true
-notAccept (Report status sense mood) = true
-notAccept (Invalid mood) = true
+notAccept (Respond code sender) = true
+notAccept (Report status sense sender) = true
+notAccept (Invalid sender) = true
 notAccept Accept = false
 
 -- whether the rule at k applies

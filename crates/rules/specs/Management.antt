@@ -8,7 +8,7 @@ use Rattle.wire.specs.declared.codes.ReturnCode.{ReturnCode}
 use Rattle.task.specs.Selections.{everyTask, named, onUnit, fromOn, acaFromOn}
 use Rattle.task.specs.declared.select.Selection.{Selection}
 use Rattle.task.specs.declared.select.Place.the-variants.{Anywhere, On}
-use Rattle.table.specs.Tables.{warnedIn, alarmedIn, acaClearedIn}
+use Rattle.table.specs.Tables.{clearedAttentionIn, resetAttentionIn, acaClearedIn}
 use Rattle.table.specs.declared.Path as path
 use Rattle.table.specs.declared.Unit as unit
 use Rattle.rules.specs.declared.rules.Facts.{Facts}
@@ -78,12 +78,12 @@ orderCode f m o = cond (reservedSet m) Paper.invalidField (cond (hasUnit o && no
 
 -- CLEAR TASK SET: every other path that lost a task gets cleared attention, unless reset is pending. A reset: reset attention on all paths; marks stay
 abbrev pub orderPaths : List path.Path → ℕ → ℕ → Order → List path.Path
-orderPaths paths count losers (AbortTask tag2) = paths
-orderPaths paths count losers (AbortTaskSet lun) = paths
-orderPaths paths count losers (ClearTaskSet lun) = warnedIn paths losers
-orderPaths paths count losers (ClearAca lun) = paths
-orderPaths paths count losers (UnitReset lun) = alarmedIn paths count false
-orderPaths paths count losers TargetReset = alarmedIn paths count false
+orderPaths paths count others (AbortTask tag2) = paths
+orderPaths paths count others (AbortTaskSet lun) = paths
+orderPaths paths count others (ClearTaskSet lun) = clearedAttentionIn paths others
+orderPaths paths count others (ClearAca lun) = paths
+orderPaths paths count others (UnitReset lun) = resetAttentionIn paths count false
+orderPaths paths count others TargetReset = resetAttentionIn paths count false
 
 -- CLEAR ACA and LOGICAL UNIT RESET take the unit's ACA, TARGET RESET that of all units
 abbrev pub orderUnits : List unit.Unit → Order → List unit.Unit

@@ -10,7 +10,7 @@ use Rattle.wire.specs.Messages.{reservedSet}
 use Rattle.wire.specs.Block.{opcode, blockLength, cutShort, noBlock, linked}
 use Rattle.wire.specs.declared.message.Flags.{Flags}
 use Rattle.task.specs.Selections.{named, acaOn}
-use Rattle.table.specs.Tables.{pathAt, unitAt, isAttached, isReset, pickOf, hasRoom, losersOf}
+use Rattle.table.specs.Tables.{pathAt, unitAt, isAttached, isReset, pickOf, hasRoom, othersOn}
 use Rattle.table.specs.Sound.{ownedBy}
 use Rattle.table.specs.declared.Table.{Table}
 use Rattle.table.specs.declared.Attention.{Attention}
@@ -19,8 +19,8 @@ use Rattle.table.specs.declared.Aca.{Aca}
 use Rattle.table.specs.declared.Aca.the-variants.{Clear, Owned}
 use Rattle.rules.specs.First.{Rule, rule, firstThat}
 use Rattle.rules.specs.declared.rules.Facts.{Facts}
-use Rattle.rules.specs.declared.rules.Seen.{Seen}
-use Rattle.rules.specs.declared.rules.Mood.the-variants.{Stay, Mark, Unmark, Attend}
+use Rattle.rules.specs.declared.rules.Lookup.{Lookup}
+use Rattle.rules.specs.declared.rules.SenderChange.the-variants.{Stays, SetMark, ClearMark, ClearMarkAndAttention}
 use Rattle.rules.specs.declared.rules.Ruling.{Ruling}
 use Rattle.rules.specs.declared.rules.Ruling.the-variants.{Refuse, Respond, Report, Invalid, Accept}
 use Rattle.rules.specs.declared.rules.Decision.{Decision}
@@ -48,12 +48,12 @@ factsOf t p tag lun clears = record {
   aca = hasAca (unitAt t lun .aca);
   owned = ownedBy (unitAt t lun .aca) p;
   busy = pickOf t (acaOn lun) .found;
-  losers = cond clears (losersOf t lun p) 0;
+  others = cond clears (othersOn t lun p) 0;
 }
 
 -- and that task itself
-unfoldable pub seenOf : Table → ℕ → ℕ → ℕ → Bool → Seen
-seenOf t p tag lun clears = record { facts = factsOf t p tag lun clears; own = pickOf t (named p tag) }
+unfoldable pub lookupOf : Table → ℕ → ℕ → ℕ → Bool → Lookup
+lookupOf t p tag lun clears = record { facts = factsOf t p tag lun clears; own = pickOf t (named p tag) }
 
 -- ---- when a rule applies: f is what was asked of the table, g are the flags of byte 10, m is the message
 
@@ -74,22 +74,22 @@ unfoldable pub contradicts : Flags → Bool
 contradicts g = g .oot && g .confirm
 
 -- unit has ACA: pass only if the sender owns it, the kind is ACA and no ACA task is live on the unit
-unfoldable pub barred : Facts → Flags → Bool
-barred f g = f .aca && not (f .owned && (asksAca g && not (f .busy)))
+unfoldable pub keptOutByAca : Facts → Flags → Bool
+keptOutByAca f g = f .aca && not (f .owned && (asksAca g && not (f .busy)))
 
 -- no ACA and kind ACA
-unfoldable pub stray : Facts → Flags → Bool
-stray f g = not (f .aca) && asksAca g
+unfoldable pub acaKindWithoutAca : Facts → Flags → Bool
+acaKindWithoutAca f g = not (f .aca) && asksAca g
 
 -- first CDB byte 12h (INQUIRY) or 03h (REQUEST SENSE)
 unfoldable pub passesAttention : List ℕ → Bool
 passesAttention m = eqb (opcode m) Paper.inquiry || eqb (opcode m) Paper.requestSense
 
-unfoldable pub resetPending : Facts → List ℕ → Bool
-resetPending f m = isReset (f .attention) && not (passesAttention m)
+unfoldable pub resetToReport : Facts → List ℕ → Bool
+resetToReport f m = isReset (f .attention) && not (passesAttention m)
 
-unfoldable pub clearedPending : Facts → List ℕ → Bool
-clearedPending f m = isCleared (f .attention) && not (passesAttention m)
+unfoldable pub clearedToReport : Facts → List ℕ → Bool
+clearedToReport f m = isCleared (f .attention) && not (passesAttention m)
 
 -- the first of some fields that is not zero, 0 where all are
 abbrev pub firstSet : List ℕ → ℕ
@@ -105,35 +105,35 @@ reservedField m = firstSet (byte m 9 ∷ byte m 10 / 4 % 4 ∷ byte m 11 ∷ byt
 -- 1. room, and 2. the length
 unfoldable pub roomRules : Facts → Flags → List ℕ → List Rule
 roomRules f g m =
-    rule 1 (resumesUnmarked f g) (byte m 10) (Respond Paper.invalidField Stay)
+    rule 1 (resumesUnmarked f g) (byte m 10) (Respond Paper.invalidField Stays)
     ∷ rule 1 (missesResume f g) (byte m 10) (Refuse Paper.discarded)
-    ∷ rule 1 (not (f .room)) (byte m 10) (Report Paper.taskSetFull Paper.noSense Mark)
+    ∷ rule 1 (not (f .room)) (byte m 10) (Report Paper.taskSetFull Paper.noSense SetMark)
     ∷ rule 2 (cutShort m) (length m) (Refuse Paper.tooShort)
     ∷ []
 
 -- 3. to 5.: the fields, OOT with CONFIRM, the tag. From here on the mark is cleared
 unfoldable pub fieldRules : Facts → Flags → List ℕ → List Rule
 fieldRules f g m =
-    rule 3 (reservedSet m) (reservedField m) (Respond Paper.invalidField Unmark)
-    ∷ rule 4 (contradicts g) (byte m 10) (Invalid Unmark)
-    ∷ rule 5 (f .taken) (word m 2) (Respond Paper.overlapped Unmark)
+    rule 3 (reservedSet m) (reservedField m) (Respond Paper.invalidField ClearMark)
+    ∷ rule 4 (contradicts g) (byte m 10) (Invalid ClearMark)
+    ∷ rule 5 (f .taken) (word m 2) (Respond Paper.overlapped ClearMark)
     ∷ []
 
 -- 6. to 8.: the unit, its ACA, the sender's attention
 unfoldable pub unitRules : Facts → Flags → List ℕ → List Rule
 unitRules f g m =
-    rule 6 (not (f .attached)) (byte m 8) (Report Paper.checkCondition Paper.noSuchUnit Unmark)
-    ∷ rule 7 (barred f g) (byte m 10) (Report Paper.acaActive Paper.noSense Unmark)
-    ∷ rule 7 (stray f g) (byte m 10) (Report Paper.checkCondition Paper.noAcaThere Unmark)
-    ∷ rule 8 (resetPending f m) (opcode m) (Report Paper.checkCondition Paper.resetOccurred Attend)
-    ∷ rule 8 (clearedPending f m) (opcode m) (Report Paper.checkCondition Paper.clearedByAnother Attend)
+    rule 6 (not (f .attached)) (byte m 8) (Report Paper.checkCondition Paper.noSuchUnit ClearMark)
+    ∷ rule 7 (keptOutByAca f g) (byte m 10) (Report Paper.acaActive Paper.noSense ClearMark)
+    ∷ rule 7 (acaKindWithoutAca f g) (byte m 10) (Report Paper.checkCondition Paper.noAcaThere ClearMark)
+    ∷ rule 8 (resetToReport f m) (opcode m) (Report Paper.checkCondition Paper.resetOccurred ClearMarkAndAttention)
+    ∷ rule 8 (clearedToReport f m) (opcode m) (Report Paper.checkCondition Paper.clearedByAnother ClearMarkAndAttention)
     ∷ []
 
 -- 9. and 10.: the command block
 unfoldable pub blockRules : List ℕ → List Rule
 blockRules m =
-    rule 9 (noBlock m) (opcode m) (Report Paper.checkCondition Paper.unknownCommand Unmark)
-    ∷ rule 10 (linked m) (byte m (15 + blockLength m)) (Report Paper.checkCondition Paper.invalidInBlock Unmark)
+    rule 9 (noBlock m) (opcode m) (Report Paper.checkCondition Paper.unknownCommand ClearMark)
+    ∷ rule 10 (linked m) (byte m (15 + blockLength m)) (Report Paper.checkCondition Paper.invalidInBlock ClearMark)
     ∷ []
 
 -- 11. accepted

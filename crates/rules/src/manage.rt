@@ -149,16 +149,16 @@ pub fn order_code(f: Facts, m: &[u8], o: Order) -> ReturnCode
 }
 
 // The paths after an order: CLEAR TASK SET warns those that lose a task, a reset alarms all. Marks stay.
-pub fn change_paths(paths: [Path; 8], count: u8, losers: u8, o: Order) -> [Path; 8]
-    ensures { λ r. ⌜ r ≡ orderPaths paths count losers o ⌝ }
+pub fn change_paths(paths: [Path; 8], count: u8, others: u8, o: Order) -> [Path; 8]
+    ensures { λ r. ⌜ r ≡ orderPaths paths count others o ⌝ }
 {
     match o {
         Order::AbortTask(_) => paths,
         Order::AbortTaskSet(_) => paths,
-        Order::ClearTaskSet(_) => table::paths::warn(paths, losers),
+        Order::ClearTaskSet(_) => table::paths::give_cleared_attention(paths, others),
         Order::ClearAca(_) => paths,
-        Order::UnitReset(_) => table::paths::alarm(paths, count, false),
-        Order::TargetReset => table::paths::alarm(paths, count, false),
+        Order::UnitReset(_) => table::paths::give_reset_attention(paths, count, false),
+        Order::TargetReset => table::paths::give_reset_attention(paths, count, false),
     }
 }
 

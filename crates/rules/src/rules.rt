@@ -5,7 +5,7 @@ ghost use Rattle.wire.specs.Paper;
 ghost use Rattle.rules.specs.First.{firstThat};
 ghost use Rattle.rules.specs.Rules;
 ghost use Rattle.table.specs.Tables.{isReset};
-ghost use Rattle.rules.specs.Rules.{hasAca, isCleared, seenOf, asksAca, resumesUnmarked, missesResume, passesAttention, resetPending, clearedPending, fieldRules, unitRules, blockRules, accepts, deciding, decision};
+ghost use Rattle.rules.specs.Rules.{hasAca, isCleared, lookupOf, asksAca, resumesUnmarked, missesResume, passesAttention, resetToReport, clearedToReport, fieldRules, unitRules, blockRules, accepts, deciding, decision};
 use table::Aca;
 use table::Attention;
 use table::Table;
@@ -39,33 +39,33 @@ pub struct Facts {
     pub owned: bool,
     pub busy: bool,
     // The map of the other paths that have a task on the unit.
-    pub losers: u8,
+    pub others: u8,
 }
 
 // What was seen of the table: the facts, and the sender's live task with the tag, if there is one.
-pub struct Seen {
+pub struct Lookup {
     pub facts: Facts,
     pub own: Pick,
 }
 
 // What an answer does to the sender's mark and attention.
-pub enum Mood {
+pub enum SenderChange {
     // Both stay: RESUME set, path not marked.
-    Stay,
+    Stays,
     // No room: the path is marked or stays so.
-    Mark,
+    SetMark,
     // Rule 2 is passed: the mark is cleared.
-    Unmark,
+    ClearMark,
     // The pending attention is reported: the mark is cleared, and attention becomes none.
-    Attend,
+    ClearMarkAndAttention,
 }
 
 // What a rule answers. A refusal has no mood: it changes nothing.
 pub enum Ruling {
     Refuse(Refusal),
-    Respond(ReturnCode, Mood),
-    Report(StatusByte, Sense, Mood),
-    Invalid(Mood),
+    Respond(ReturnCode, SenderChange),
+    Report(StatusByte, Sense, SenderChange),
+    Invalid(SenderChange),
     Accept,
 }
 
@@ -105,8 +105,8 @@ fn is_cleared(a: Attention) -> bool
 }
 
 // What is asked of the table for the path at p, about its task with a tag and about a unit; who would lose a task on the unit only where that is asked.
-pub fn look(t: Table, p: u8, tag: u16, lun: u8, clears: bool) -> Seen
-    ensures { λ r. ⌜ r ≡ seenOf t p tag lun clears ⌝ }
+pub fn look_up(t: Table, p: u8, tag: u16, lun: u8, clears: bool) -> Lookup
+    ensures { λ r. ⌜ r ≡ lookupOf t p tag lun clears ⌝ }
 {
     let all = Selection::ALL;
     let sender = t.path_at(p as usize);
@@ -124,7 +124,7 @@ pub fn look(t: Table, p: u8, tag: u16, lun: u8, clears: bool) -> Seen
     };
     let own = t.pick(named);
     let rival = t.pick(aca_task);
-    let losers = if clears { t.losers(lun, p) } else { 0 };
+    let others = if clears { t.others_on(lun, p) } else { 0 };
     let facts = Facts {
         marked: sender.full,
         attention,
@@ -134,9 +134,9 @@ pub fn look(t: Table, p: u8, tag: u16, lun: u8, clears: bool) -> Seen
         aca: has_aca(aca),
         owned: table::sound::owned_by(aca, p),
         busy: rival.found,
-        losers,
+        others,
     };
-    Seen { facts, own }
+    Lookup { facts, own }
 }
 
 // RESUME set, path not marked.
@@ -167,8 +167,8 @@ fn asks_aca(g: Flags) -> bool
 }
 
 // The unit has ACA, and it keeps this command out.
-fn barred(f: Facts, g: Flags) -> bool
-    ensures { λ r. ⌜ r ≡ Rules.barred f g ⌝ }
+fn kept_out_by_aca(f: Facts, g: Flags) -> bool
+    ensures { λ r. ⌜ r ≡ Rules.keptOutByAca f g ⌝ }
 {
     if !f.aca {
         return false;
@@ -183,8 +183,8 @@ fn barred(f: Facts, g: Flags) -> bool
 }
 
 // No ACA and kind ACA.
-fn stray(f: Facts, g: Flags) -> bool
-    ensures { λ r. ⌜ r ≡ Rules.stray f g ⌝ }
+fn aca_kind_without_aca(f: Facts, g: Flags) -> bool
+    ensures { λ r. ⌜ r ≡ Rules.acaKindWithoutAca f g ⌝ }
 {
     if f.aca {
         return false;
@@ -203,8 +203,8 @@ fn passes_attention(m: &[u8]) -> bool
     first == REQUEST_SENSE
 }
 
-fn reset_pending(f: Facts, m: &[u8]) -> bool
-    ensures { λ r. ⌜ r ≡ resetPending f (now (m .entry)) ⌝ }
+fn reset_to_report(f: Facts, m: &[u8]) -> bool
+    ensures { λ r. ⌜ r ≡ resetToReport f (now (m .entry)) ⌝ }
 {
     let pending = f.attention;
     if is_reset(pending) {
@@ -213,8 +213,8 @@ fn reset_pending(f: Facts, m: &[u8]) -> bool
     false
 }
 
-fn cleared_pending(f: Facts, m: &[u8]) -> bool
-    ensures { λ r. ⌜ r ≡ clearedPending f (now (m .entry)) ⌝ }
+fn cleared_to_report(f: Facts, m: &[u8]) -> bool
+    ensures { λ r. ⌜ r ≡ clearedToReport f (now (m .entry)) ⌝ }
 {
     let pending = f.attention;
     if is_cleared(pending) {
@@ -232,29 +232,29 @@ fn refuse(rule: u8, n: Refusal) -> Decision
     }
 }
 
-fn respond(rule: u8, code: ReturnCode, mood: Mood) -> Decision
-    ensures { λ r. ⌜ r ≡ Rules.decided rule (Ruling.Respond code mood) ⌝ }
+fn respond(rule: u8, code: ReturnCode, sender: SenderChange) -> Decision
+    ensures { λ r. ⌜ r ≡ Rules.decided rule (Ruling.Respond code sender) ⌝ }
 {
     Decision {
         rule,
-        ruling: Ruling::Respond(code, mood),
+        ruling: Ruling::Respond(code, sender),
     }
 }
 
-fn report(rule: u8, status: StatusByte, sense: Sense, mood: Mood) -> Decision
-    ensures { λ r. ⌜ r ≡ Rules.decided rule (Ruling.Report status sense mood) ⌝ }
+fn report(rule: u8, status: StatusByte, sense: Sense, sender: SenderChange) -> Decision
+    ensures { λ r. ⌜ r ≡ Rules.decided rule (Ruling.Report status sense sender) ⌝ }
 {
     Decision {
         rule,
-        ruling: Ruling::Report(status, sense, mood),
+        ruling: Ruling::Report(status, sense, sender),
     }
 }
 
 // CHECK CONDITION, with sense.
-fn check(rule: u8, sense: Sense, mood: Mood) -> Decision
-    ensures { λ r. ⌜ r ≡ Rules.decided rule (Ruling.Report Paper.checkCondition sense mood) ⌝ }
+fn check(rule: u8, sense: Sense, sender: SenderChange) -> Decision
+    ensures { λ r. ⌜ r ≡ Rules.decided rule (Ruling.Report Paper.checkCondition sense sender) ⌝ }
 {
-    report(rule, StatusByte::CHECK_CONDITION, sense, mood)
+    report(rule, StatusByte::CHECK_CONDITION, sense, sender)
 }
 
 // Rules 9 to 11: the command block.
@@ -262,10 +262,10 @@ fn by_block(m: &[u8]) -> Decision
     ensures { λ r. ⌜ r ≡ decision (firstThat (blockRules (now (m .entry))) (accepts (now (m .entry)))) ⌝ }
 {
     if wire::block::no_length(m) {
-        return check(9, Sense::UNKNOWN_COMMAND, Mood::Unmark);
+        return check(9, Sense::UNKNOWN_COMMAND, SenderChange::ClearMark);
     }
     if wire::block::is_linked(m) {
-        return check(10, Sense::INVALID_IN_BLOCK, Mood::Unmark);
+        return check(10, Sense::INVALID_IN_BLOCK, SenderChange::ClearMark);
     }
     Decision {
         rule: 11,
@@ -278,19 +278,19 @@ fn by_unit(f: Facts, g: Flags, m: &[u8]) -> Decision
     ensures { λ r. ⌜ r ≡ decision (firstThat (unitRules f g (now (m .entry)) ++ blockRules (now (m .entry))) (accepts (now (m .entry)))) ⌝ }
 {
     if !f.attached {
-        return check(6, Sense::NO_SUCH_UNIT, Mood::Unmark);
+        return check(6, Sense::NO_SUCH_UNIT, SenderChange::ClearMark);
     }
-    if barred(f, g) {
-        return report(7, StatusByte::ACA_ACTIVE, Sense::NONE, Mood::Unmark);
+    if kept_out_by_aca(f, g) {
+        return report(7, StatusByte::ACA_ACTIVE, Sense::NONE, SenderChange::ClearMark);
     }
-    if stray(f, g) {
-        return check(7, Sense::NO_ACA_THERE, Mood::Unmark);
+    if aca_kind_without_aca(f, g) {
+        return check(7, Sense::NO_ACA_THERE, SenderChange::ClearMark);
     }
-    if reset_pending(f, m) {
-        return check(8, Sense::RESET_OCCURRED, Mood::Attend);
+    if reset_to_report(f, m) {
+        return check(8, Sense::RESET_OCCURRED, SenderChange::ClearMarkAndAttention);
     }
-    if cleared_pending(f, m) {
-        return check(8, Sense::CLEARED_BY_ANOTHER, Mood::Attend);
+    if cleared_to_report(f, m) {
+        return check(8, Sense::CLEARED_BY_ANOTHER, SenderChange::ClearMarkAndAttention);
     }
     by_block(m)
 }
@@ -310,16 +310,16 @@ fn by_fields(f: Facts, g: Flags, m: &[u8]) -> Decision
     ensures { λ r. ⌜ r ≡ decision (firstThat (fieldRules f g (now (m .entry)) ++ (unitRules f g (now (m .entry)) ++ blockRules (now (m .entry)))) (accepts (now (m .entry)))) ⌝ }
 {
     if wire::message::reserved_set(m) {
-        return respond(3, ReturnCode::INVALID_FIELD, Mood::Unmark);
+        return respond(3, ReturnCode::INVALID_FIELD, SenderChange::ClearMark);
     }
     if contradicts(g) {
         return Decision {
             rule: 4,
-            ruling: Ruling::Invalid(Mood::Unmark),
+            ruling: Ruling::Invalid(SenderChange::ClearMark),
         };
     }
     if f.taken {
-        return respond(5, ReturnCode::OVERLAPPED, Mood::Unmark);
+        return respond(5, ReturnCode::OVERLAPPED, SenderChange::ClearMark);
     }
     by_unit(f, g, m)
 }
@@ -329,13 +329,13 @@ pub fn decide(f: Facts, g: Flags, m: &[u8]) -> Decision
     ensures { λ r. ⌜ r ≡ decision (deciding f g (now (m .entry))) ⌝ }
 {
     if resumes_unmarked(f, g) {
-        return respond(1, ReturnCode::INVALID_FIELD, Mood::Stay);
+        return respond(1, ReturnCode::INVALID_FIELD, SenderChange::Stays);
     }
     if misses_resume(f, g) {
         return refuse(1, Refusal::DISCARDED);
     }
     if !f.room {
-        return report(1, StatusByte::TASK_SET_FULL, Sense::NONE, Mood::Mark);
+        return report(1, StatusByte::TASK_SET_FULL, Sense::NONE, SenderChange::SetMark);
     }
     if wire::block::cut_short(m) {
         return refuse(2, Refusal::TOO_SHORT);

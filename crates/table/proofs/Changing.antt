@@ -1,7 +1,7 @@
 -- The answers of paths, units and changes: a lemma for each way out, and for each turn of a loop. Assumes nothing.
 --     bounded                  for `search`, a choice by a bound
 --     path-loop, end-loop      for `search (needs, ..)`, the turns of the loops over the paths and over the records
---     loser-loop      for `search`, the start, the bound and the end of the loop over the losers; its turns are losers-add and losers-skip
+--     others-loop      for `search`, the start, the bound and the end of the loop over the others; its turns are others-add and others-skip
 --     aca-ways, room-ways, alter-ways, finish-ways      for `search`, the ways out of the functions on ACA, room, a record that changes, and finish
 use Prim.Native.Nat.{ℕ, _+_, _^_, _≤_, _<_}
 use mathlib.Core.Path.{_≡_, refl, sym, ap, ap₂, _∙_}
@@ -30,7 +30,7 @@ use Rattle.task.proofs.Lists.{mapBelow, mapBelow-ahead, mapBelow-zero, mapBelow
 use Rattle.task.proofs.Bits.{mapOf-lt}
 use Rattle.task.proofs.Loops.{mapOf-start, mapOf-add, mapOf-skip}
 use Rattle.task.proofs.Clearing.{clearBelow, clear-zero, clear-step, clear-skip, clear-ahead, clear-all}
-use Rattle.table.specs.Tables.{noPath, noUnit, taskAt, hasId, placeOf, picksAt, anyLive, pickOf, lastArrival, hasRoom, withTasks, withUnits, newTask, accepted, endedBy, alteredAt, alarmedIn, loses, losersOf, claimedIn, acaClearedIn, claimedBy, finished, resetOf}
+use Rattle.table.specs.Tables.{noPath, noUnit, taskAt, hasId, placeOf, picksAt, anyLive, pickOf, lastArrival, hasRoom, withTasks, withUnits, newTask, accepted, endedBy, alteredAt, resetAttentionIn, isOtherOn, othersOn, claimedIn, acaClearedIn, claimedBy, finished, resetOf}
 use Rattle.table.specs.declared.Aca.the-variants.{Clear, Owned}
 use Rattle.table.specs.declared.Path as path
 use Rattle.table.specs.declared.Unit as unit
@@ -238,7 +238,7 @@ module _ (t : Table) {i : ℕ} (failed : Bool) (transferred : ℕ) where
 
 pub ruleset finish-ways = (claims, claims-nothing, finish-past, finish-dead, finish-stays, finish-ends)
 
-pub reset-all : (t : Table) {l : List path.Path} {u : unit.Unit} {a : Task} → l ≡ alarmedIn (t .paths) (t .count) true → u ≡ noUnit → a ≡ noTask
+pub reset-all : (t : Table) {l : List path.Path} {u : unit.Unit} {a : Task} → l ≡ resetAttentionIn (t .paths) (t .count) true → u ≡ noUnit → a ≡ noTask
     → record { live = 0; next = t .next; count = t .count; attached = t .attached; paths = l; units = replicate 8 u; tasks = replicate 64 a } ≡ resetOf t
 unfolding resetOf
 reset-all t e h k = rw (e, h, k)
@@ -246,24 +246,24 @@ reset-all t e h k = rw (e, h, k)
 -- ---- the map of the paths that lose a task
 
 module _ (t : Table) (unit sender : ℕ) where
-  pub loses-as : {r : Pick} {b : Bool} (p : ℕ) → length (t .tasks) ≡ 64 → r ≡ pickOf t (fromOn p unit) → b ≡ (ltb p (t .count) && (not (eqb p sender) && r .found)) → b ≡ loses t unit sender p
-  loses-as p n k f = f ∙ rw (found-any t (fromOn p unit) k n)
+  pub other-as : {r : Pick} {b : Bool} (p : ℕ) → length (t .tasks) ≡ 64 → r ≡ pickOf t (fromOn p unit) → b ≡ (ltb p (t .count) && (not (eqb p sender) && r .found)) → b ≡ isOtherOn t unit sender p
+  other-as p n k f = f ∙ rw (found-any t (fromOn p unit) k n)
 
-  pub losers-start : 0 ≡ mapOf 0 (loses t unit sender)
-  losers-start = sym (mapOf-start (loses t unit sender))
+  pub others-start : 0 ≡ mapOf 0 (isOtherOn t unit sender)
+  others-start = sym (mapOf-start (isOtherOn t unit sender))
 
-  module _ {m : ℕ} (p : ℕ) (e : m ≡ mapOf p (loses t unit sender)) where
-    pub losers-fit : m < 2 ^ p
-    losers-fit = rw e (mapOf-lt p (loses t unit sender))
+  module _ {m : ℕ} (p : ℕ) (e : m ≡ mapOf p (isOtherOn t unit sender)) where
+    pub others-fit : m < 2 ^ p
+    others-fit = rw e (mapOf-lt p (isOtherOn t unit sender))
 
-    pub losers-add : {b : Bool} {v : ℕ} → v ≡ m + 2 ^ p → b ≡ true → b ≡ loses t unit sender p → v ≡ mapOf (p + 1) (loses t unit sender)
-    losers-add d h f = d ∙ rw e (mapOf-add p (loses t unit sender) (answered-true f h))
+    pub others-add : {b : Bool} {v : ℕ} → v ≡ m + 2 ^ p → b ≡ true → b ≡ isOtherOn t unit sender p → v ≡ mapOf (p + 1) (isOtherOn t unit sender)
+    others-add d h f = d ∙ rw e (mapOf-add p (isOtherOn t unit sender) (answered-true f h))
 
-    pub losers-skip : {b : Bool} {v : ℕ} → v ≡ m → b ≡ false → b ≡ loses t unit sender p → v ≡ mapOf (p + 1) (loses t unit sender)
-    losers-skip d h f = d ∙ e ∙ mapOf-skip p (loses t unit sender) (answered-false f h)
+    pub others-skip : {b : Bool} {v : ℕ} → v ≡ m → b ≡ false → b ≡ isOtherOn t unit sender p → v ≡ mapOf (p + 1) (isOtherOn t unit sender)
+    others-skip d h f = d ∙ e ∙ mapOf-skip p (isOtherOn t unit sender) (answered-false f h)
 
-    pub losers-end : p ≤ 8 → 8 ≤ p → m ≡ losersOf t unit sender
-    unfolding losersOf
-    losers-end h l = e ∙ rw (le-antisymm h l)
+    pub others-end : p ≤ 8 → 8 ≤ p → m ≡ othersOn t unit sender
+    unfolding othersOn
+    others-end h l = e ∙ rw (le-antisymm h l)
 
-pub ruleset loser-loop = (losers-start, losers-fit, losers-end)
+pub ruleset others-loop = (others-start, others-fit, others-end)

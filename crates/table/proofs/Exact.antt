@@ -18,7 +18,7 @@ use Rattle.task.specs.declared.Task.{Task}
 use Rattle.task.proofs.Ways.{either-way, never, both, either}
 use Rattle.task.proofs.Places.{lt-or-le, all-at, all-of, none-at, some-none, first-is}
 use Rattle.table.specs.Tables.{noPath, pathAt, unitAt, taskAt, bitOf, isAttached, isNothing, hasId, placeOf, pathOf}
-use Rattle.table.specs.Sound.{Sound, isNoPath, isNoTask, ownedBy, mayStand, liveOk, acaAt, countOk, pathsDistinct, unusedZero, recordsOk, unitsOk, shareUnit, alike, clashes, soundOf}
+use Rattle.table.specs.Sound.{Sound, isNoPath, isNoTask, ownedBy, mayStand, liveOk, acaAt, countOk, pathsDistinct, unusedZero, recordsOk, unitsOk, cannotShareUnit, alike, clashes, soundOf}
 use Rattle.table.specs.View.{at}
 use Rattle.table.specs.Promises.{CheckIsExact}
 use Rattle.table.specs.declared.Attention.{Attention}
@@ -111,7 +111,7 @@ turned (both-aca h l p) = both-aca l h (sym p)
 
 -- what the check calls alike is that, and no more
 module _ (a b : Task) where
-  on-unit : a .unit ≡ b .unit → shareUnit a b ≡ true → alike a b ≡ true
+  on-unit : a .unit ≡ b .unit → cannotShareUnit a b ≡ true → alike a b ≡ true
   on-unit p h =
       rw (eq-eqb (a .unit) (b .unit) p, h, or-true (eqb (a .path) (b .path) && eqb (a .tag) (b .tag))) (or-true (eqb (a .arrival) (b .arrival)))
 
@@ -121,7 +121,7 @@ module _ (a b : Task) where
   clash-alike (both-run h l p) = on-unit p (rw (h, l))
   clash-alike (both-aca h l p) = on-unit p (rw (h, l) (or-true (isRunning (a .phase) && isRunning (b .phase))))
 
-  unit-clash : a .unit ≡ b .unit → shareUnit a b ≡ true → Clash a b
+  unit-clash : a .unit ≡ b .unit → cannotShareUnit a b ≡ true → Clash a b
   unit-clash p h = elim (either (isRunning (a .phase) && isRunning (b .phase)) _ h) [
     | inl e ↦ let f = both _ _ e in both-run (f .0) (f .1) p
     | inr e ↦ let f = both _ _ e in both-aca (f .0) (f .1) p

@@ -25,11 +25,11 @@ use Rattle.task.proofs.Bits.{mapOf-lt, live-mapOf}
 use Rattle.task.proofs.Maps.{with-lt}
 use Rattle.task.proofs.Lists.{length-mapAt, getD-mapAt, is-mapAt}
 use Rattle.task.proofs.Selecting.{picks-named, picks-aca-on, picks-running-on}
-use Rattle.table.specs.Tables.{noPath, noUnit, pathAt, unitAt, taskAt, isAttached, anyLive, lastArrival, hasRoom, withTasks, withPaths, withUnits, newTask, accepted, endedBy, alteredAt, markedIn, attendedIn, alarmedPath, alarmedIn, loses, losersOf, warnedIn, claimedUnit, claimedIn, acaClearedIn, claimedBy, finished, resetOf}
+use Rattle.table.specs.Tables.{noPath, noUnit, pathAt, unitAt, taskAt, isAttached, anyLive, lastArrival, hasRoom, withTasks, withPaths, withUnits, newTask, accepted, endedBy, alteredAt, markedIn, attentionGoneIn, withResetAttention, resetAttentionIn, isOtherOn, othersOn, clearedAttentionIn, claimedUnit, claimedIn, acaClearedIn, claimedBy, finished, resetOf}
 use Rattle.table.specs.Setup.{seenBefore, badList, freshPath, freshPaths, pathsOf, freshTable, setupTable}
 use Rattle.table.specs.Sound.{Sound}
 use Rattle.table.specs.View.{at}
-use Rattle.table.specs.Promises.{Good, FreshIsGood, MayCome, AcceptKeeps, EndKeeps, SameTask, AlterKeeps, StartedKeeps, RestartedKeeps, FinishedKeeps, ClaimKeeps, ClearKeeps, MarkKeeps, AttendKeeps, AlarmKeeps, WarnKeeps, ResetOfKeeps, ResetIsSetup}
+use Rattle.table.specs.Promises.{Good, FreshIsGood, MayCome, AcceptKeeps, EndKeeps, SameTask, AlterKeeps, StartedKeeps, RestartedKeeps, FinishedKeeps, ClaimKeeps, ClearKeeps, MarkKeeps, AttentionGoneKeeps, ResetAttentionKeeps, ClearedAttentionKeeps, ResetOfKeeps, ResetIsSetup}
 use Rattle.table.specs.declared.Aca.{Aca}
 use Rattle.table.specs.declared.Aca.the-variants.{Clear, Owned}
 use Rattle.table.specs.declared.Path as path
@@ -37,7 +37,7 @@ use Rattle.table.specs.declared.Unit as unit
 use Rattle.table.specs.declared.Table.{Table}
 use Rattle.table.proofs.Exact.{Clash, same-name, same-arrival, both-run, both-aca, turned, orderIn, sound-by, parts}
 use Rattle.table.proofs.Setting.{few-ids}
-use Rattle.table.proofs.Views.{not-both, at-live, at-dead, at-empty, at-put, at-put-other, ended-task, altered-at, altered-other, at-fresh, withNext, idsOf, ids-at, ids-length, ids-marked, ids-attended, ids-alarmed, ids-warned, none-any, any-empty, ended-from, ended-to}
+use Rattle.table.proofs.Views.{not-both, at-live, at-dead, at-empty, at-put, at-put-other, ended-task, altered-at, altered-other, at-fresh, withNext, idsOf, ids-at, ids-length, ids-marked, ids-attention-gone, ids-reset-attention, ids-cleared-attention, none-any, any-empty, ended-from, ended-to}
 
 getD-same : {A : Type 0} (n i : ℕ) (d : A) → getD (replicate n d) i d ≡ d
 getD-same zero i d = refl
@@ -112,19 +112,19 @@ pub mark-keeps : MarkKeeps
 unfolding markedIn
 mark-keeps t p full g l = ids-keep t g _ (ids-marked (t .paths) p full) (λ q b _. set-kept t g p _ l q b)
 
-pub attend-keeps : AttendKeeps
-unfolding attendedIn
-attend-keeps t p g l = ids-keep t g _ (ids-attended (t .paths) p) (λ q b _. set-kept t g p _ l q b)
+pub attention-gone-keeps : AttentionGoneKeeps
+unfolding attentionGoneIn
+attention-gone-keeps t p g l = ids-keep t g _ (ids-attention-gone (t .paths) p) (λ q b _. set-kept t g p _ l q b)
 
-pub alarm-keeps : AlarmKeeps
-unfolding alarmedIn
-alarm-keeps t unmark g = ids-keep t g _ (ids-alarmed (t .paths) (t .count) unmark) (λ p b l. map-kept t g _ p l (rw (le-ltb p (t .count) b)))
+pub reset-attention-keeps : ResetAttentionKeeps
+unfolding resetAttentionIn
+reset-attention-keeps t unmark g = ids-keep t g _ (ids-reset-attention (t .paths) (t .count) unmark) (λ p b l. map-kept t g _ p l (rw (le-ltb p (t .count) b)))
 
-pub warn-keeps : WarnKeeps
-unfolding warnedIn losersOf
-warn-keeps t unit sender g =
-    ids-keep t g _ (ids-warned (t .paths) (losersOf t unit sender))
-    (λ p b l. map-kept t g _ p l (rw (live-mapOf 8 p (loses t unit sender) l, le-ltb p (t .count) b)))
+pub cleared-attention-keeps : ClearedAttentionKeeps
+unfolding clearedAttentionIn othersOn
+cleared-attention-keeps t unit sender g =
+    ids-keep t g _ (ids-cleared-attention (t .paths) (othersOn t unit sender))
+    (λ p b l. map-kept t g _ p l (rw (live-mapOf 8 p (isOtherOn t unit sender) l, le-ltb p (t .count) b)))
 
 -- ---- units
 
@@ -368,7 +368,7 @@ pub reset-keeps : ResetOfKeeps
 unfolding resetOf acaClearedIn
 reset-keeps t g =
     let u = withTasks t 0 (replicate 64 noTask) in
-    alarm-keeps (withUnits u (acaClearedIn (u .units) Anywhere)) true
+    reset-attention-keeps (withUnits u (acaClearedIn (u .units) Anywhere)) true
     (clear-keeps u Anywhere (wipe-good t g) (λ unit. any-empty u (acaOn unit) refl))
 
 -- ---- setup
@@ -463,7 +463,7 @@ ids-good t ids s e h =
     apart i j l m q = let z : i ≡ j = s .distinct i j (omega arith) (omega arith) (h i (omega arith) ∙ q ∙ sym (h j (omega arith))) in omega arith
 
 pub reset-is-setup : ResetIsSetup
-unfolding resetOf alarmedIn freshTable setupTable
+unfolding resetOf resetAttentionIn freshTable setupTable
 reset-is-setup t ids g e h = rw (ids-good t ids (g .sound) e h) (λ i. record {
   live = 0;
   next = t .next;
@@ -475,7 +475,7 @@ reset-is-setup t ids g e h = rw (ids-good t ids (g .sound) e h) (λ i. record {
 })
   where
     f : ℕ → path.Path → path.Path
-    f p a = cond (ltb p (t .count)) (alarmedPath true a) a
+    f p a = cond (ltb p (t .count)) (withResetAttention true a) a
 
     same : mapAt f 0 (t .paths) ≡ pathsOf ids
     same =

@@ -23,7 +23,7 @@ use Rattle.task.proofs.Bits.{dead-zero, live-mapOf}
 use Rattle.task.proofs.Maps.{with-same, with-other, lowest-free}
 use Rattle.task.proofs.Lists.{getD-mapAt}
 use Rattle.task.proofs.Next.{scan-stands, found-is-some}
-use Rattle.table.specs.Tables.{noPath, zeroTable, taskAt, bitOf, isReset, picksAt, anyLive, pickOf, hasRoom, withTasks, withPaths, withUnits, putAt, newTask, accepted, endedBy, alteredAt, markedIn, attendedIn, alarmedIn, warnedIn, claimedBy, finished, resetOf}
+use Rattle.table.specs.Tables.{noPath, zeroTable, taskAt, bitOf, isReset, picksAt, anyLive, pickOf, hasRoom, withTasks, withPaths, withUnits, putAt, newTask, accepted, endedBy, alteredAt, markedIn, attentionGoneIn, resetAttentionIn, clearedAttentionIn, claimedBy, finished, resetOf}
 use Rattle.table.specs.Setup.{badList, freshTable, setupTable}
 use Rattle.table.specs.Sound.{Shaped}
 use Rattle.table.specs.View.{at}
@@ -164,25 +164,25 @@ module _ (l : List path.Path) where
   unfolding markedIn
   ids-marked p full = set-ids p _ refl
 
-  pub ids-attended : (p : ℕ) → idsOf (attendedIn l p) ≡ idsOf l
-  unfolding attendedIn
-  ids-attended p = set-ids p _ refl
+  pub ids-attention-gone : (p : ℕ) → idsOf (attentionGoneIn l p) ≡ idsOf l
+  unfolding attentionGoneIn
+  ids-attention-gone p = set-ids p _ refl
 
-  pub ids-alarmed : (count : ℕ) (unmark : Bool) → idsOf (alarmedIn l count unmark) ≡ idsOf l
-  unfolding alarmedIn
-  ids-alarmed count unmark = map-ids _ (λ p a. cond-ind (λ (x : path.Path). x .id ≡ a .id) (ltb p count) (λ _. refl) (λ _. refl)) 0 l
+  pub ids-reset-attention : (count : ℕ) (unmark : Bool) → idsOf (resetAttentionIn l count unmark) ≡ idsOf l
+  unfolding resetAttentionIn
+  ids-reset-attention count unmark = map-ids _ (λ p a. cond-ind (λ (x : path.Path). x .id ≡ a .id) (ltb p count) (λ _. refl) (λ _. refl)) 0 l
 
-  pub ids-warned : (losers : ℕ) → idsOf (warnedIn l losers) ≡ idsOf l
-  unfolding warnedIn
-  ids-warned losers =
+  pub ids-cleared-attention : (others : ℕ) → idsOf (clearedAttentionIn l others) ≡ idsOf l
+  unfolding clearedAttentionIn
+  ids-cleared-attention others =
       map-ids _
       (λ p a.
-      cond-ind (λ (x : path.Path). x .id ≡ a .id) (bitOf losers p)
+      cond-ind (λ (x : path.Path). x .id ≡ a .id) (bitOf others p)
       (λ _. cond-ind (λ (x : path.Path). x .id ≡ a .id) (isReset (a .attention)) (λ _. refl) (λ _. refl)) (λ _. refl)) 0 l
 
 pub reset-ids : (t : Table) → idsOf (resetOf t .paths) ≡ idsOf (t .paths)
 unfolding resetOf
-reset-ids t = ids-alarmed (t .paths) (t .count) true
+reset-ids t = ids-reset-attention (t .paths) (t .count) true
 
 -- paths and units are not asked for the tasks
 module _ (t : Table) (paths : List path.Path) (units : List unit.Unit) where

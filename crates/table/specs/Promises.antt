@@ -15,7 +15,7 @@ use Rattle.task.specs.declared.select.Selection.{Selection}
 use Rattle.task.specs.declared.select.Place.{Place}
 use Rattle.task.specs.declared.select.Place.the-variants.{Anywhere, On}
 use Rattle.table.specs.Tables.{pathAt, unitAt, taskAt, isAttached, anyLive, pickOf, hasRoom, newTask, withPaths, withUnits}
-use Rattle.table.specs.Tables.{markedIn, attendedIn, alarmedIn, warnedIn, losersOf, claimedIn, acaClearedIn}
+use Rattle.table.specs.Tables.{markedIn, attentionGoneIn, resetAttentionIn, clearedAttentionIn, othersOn, claimedIn, acaClearedIn}
 use Rattle.table.specs.Tables.{accepted, endedBy, alteredAt, started, restarted, finished, resetOf}
 use Rattle.table.specs.Setup.{badList, setupTable}
 use Rattle.table.specs.Sound.{Shaped, Sound, soundOf}
@@ -86,14 +86,14 @@ ClearKeeps = (t : Table) (place : Place) → Good t → noAcaLeft t place → Go
 abbrev pub MarkKeeps : Type 0
 MarkKeeps = (t : Table) (p : ℕ) (full : Bool) → Good t → p < t .count → Good (withPaths t (markedIn (t .paths) p full))
 
-abbrev pub AttendKeeps : Type 0
-AttendKeeps = (t : Table) (p : ℕ) → Good t → p < t .count → Good (withPaths t (attendedIn (t .paths) p))
+abbrev pub AttentionGoneKeeps : Type 0
+AttentionGoneKeeps = (t : Table) (p : ℕ) → Good t → p < t .count → Good (withPaths t (attentionGoneIn (t .paths) p))
 
-abbrev pub AlarmKeeps : Type 0
-AlarmKeeps = (t : Table) (unmark : Bool) → Good t → Good (withPaths t (alarmedIn (t .paths) (t .count) unmark))
+abbrev pub ResetAttentionKeeps : Type 0
+ResetAttentionKeeps = (t : Table) (unmark : Bool) → Good t → Good (withPaths t (resetAttentionIn (t .paths) (t .count) unmark))
 
-abbrev pub WarnKeeps : Type 0
-WarnKeeps = (t : Table) (unit sender : ℕ) → Good t → Good (withPaths t (warnedIn (t .paths) (losersOf t unit sender)))
+abbrev pub ClearedAttentionKeeps : Type 0
+ClearedAttentionKeeps = (t : Table) (unit sender : ℕ) → Good t → Good (withPaths t (clearedAttentionIn (t .paths) (othersOn t unit sender)))
 
 abbrev pub ResetOfKeeps : Type 0
 ResetOfKeeps = (t : Table) → Good t → Good (resetOf t)

@@ -107,13 +107,13 @@ unfoldable pub unitsOk : Table → Bool
 unitsOk t = all 8 (λ u. unitOk (t .count) (t .attached) u (unitAt t u))
 
 -- two tasks that can't stand on one unit: both run, or both are ACA tasks
-abbrev pub shareUnit : Task → Task → Bool
-shareUnit a b = (isRunning (a .phase) && isRunning (b .phase)) || (isAca (a .kind) && isAca (b .kind))
+abbrev pub cannotShareUnit : Task → Task → Bool
+cannotShareUnit a b = (isRunning (a .phase) && isRunning (b .phase)) || (isAca (a .kind) && isAca (b .kind))
 
 -- two tasks that can't both be live
 abbrev pub alike : Task → Task → Bool
 alike a b =
-    eqb (a .arrival) (b .arrival) || ((eqb (a .path) (b .path) && eqb (a .tag) (b .tag)) || (shareUnit a b && eqb (a .unit) (b .unit)))
+    eqb (a .arrival) (b .arrival) || ((eqb (a .path) (b .path) && eqb (a .tag) (b .tag)) || (cannotShareUnit a b && eqb (a .unit) (b .unit)))
 
 abbrev pub clashOf : ℕ → ℕ → Task → ℕ → Task → Bool
 clashOf live i a j b = alike a b && (isLive live i && isLive live j)

@@ -153,29 +153,29 @@ unfoldable pub markedIn : List path.Path → ℕ → Bool → List path.Path
 markedIn paths p full = cond (ltb p 8) (set paths p (markedPath full (getD paths p noPath))) paths
 
 -- the attention of the path at p becomes none
-unfoldable pub attendedIn : List path.Path → ℕ → List path.Path
-attendedIn paths p = cond (ltb p 8) (set paths p (withAttention attention.Nothing (getD paths p noPath))) paths
+unfoldable pub attentionGoneIn : List path.Path → ℕ → List path.Path
+attentionGoneIn paths p = cond (ltb p 8) (set paths p (withAttention attention.Nothing (getD paths p noPath))) paths
 
 -- reset attention on every listed path, and with `unmark` its mark gone
-abbrev pub alarmedPath : Bool → path.Path → path.Path
-alarmedPath unmark a = record { id = a .id; full = cond unmark false (a .full); attention = attention.Reset }
+abbrev pub withResetAttention : Bool → path.Path → path.Path
+withResetAttention unmark a = record { id = a .id; full = cond unmark false (a .full); attention = attention.Reset }
 
-unfoldable pub alarmedIn : List path.Path → ℕ → Bool → List path.Path
-alarmedIn paths count unmark = mapAt (λ p a. cond (ltb p count) (alarmedPath unmark a) a) 0 paths
+unfoldable pub resetAttentionIn : List path.Path → ℕ → Bool → List path.Path
+resetAttentionIn paths count unmark = mapAt (λ p a. cond (ltb p count) (withResetAttention unmark a) a) 0 paths
 
 -- cleared attention on every path of a map, unless reset is pending
-abbrev pub warnedPath : path.Path → path.Path
-warnedPath a = cond (isReset (a .attention)) a (withAttention attention.Cleared a)
+abbrev pub withClearedAttention : path.Path → path.Path
+withClearedAttention a = cond (isReset (a .attention)) a (withAttention attention.Cleared a)
 
-unfoldable pub warnedIn : List path.Path → ℕ → List path.Path
-warnedIn paths losers = mapAt (λ p a. cond (bitOf losers p) (warnedPath a) a) 0 paths
+unfoldable pub clearedAttentionIn : List path.Path → ℕ → List path.Path
+clearedAttentionIn paths others = mapAt (λ p a. cond (bitOf others p) (withClearedAttention a) a) 0 paths
 
 -- the path at p is a listed one, not the sender's, with a live task on the unit; and the map of those paths
-abbrev pub loses : Table → ℕ → ℕ → ℕ → Bool
-loses t unit sender p = ltb p (t .count) && (not (eqb p sender) && anyLive t (fromOn p unit))
+abbrev pub isOtherOn : Table → ℕ → ℕ → ℕ → Bool
+isOtherOn t unit sender p = ltb p (t .count) && (not (eqb p sender) && anyLive t (fromOn p unit))
 
-unfoldable pub losersOf : Table → ℕ → ℕ → ℕ
-losersOf t unit sender = mapOf 8 (loses t unit sender)
+unfoldable pub othersOn : Table → ℕ → ℕ → ℕ
+othersOn t unit sender = mapOf 8 (isOtherOn t unit sender)
 
 -- the unit gets ACA owned by the path, unless it has one
 abbrev pub claimedUnit : ℕ → unit.Unit → unit.Unit
@@ -215,7 +215,7 @@ resetOf t = record {
   next = t .next;
   count = t .count;
   attached = t .attached;
-  paths = alarmedIn (t .paths) (t .count) true;
+  paths = resetAttentionIn (t .paths) (t .count) true;
   units = replicate 8 noUnit;
   tasks = replicate 64 noTask;
 }

@@ -9,7 +9,7 @@ use Rattle.task.specs.declared.Task.{Task}
 use Rattle.task.specs.declared.select.Selection.{Selection}
 use Rattle.task.specs.declared.select.Place.{Place}
 use Rattle.table.specs.Tables.{zeroTable, pathAt, unitAt, taskAt, isAttached, pathOf, pickOf, hasRoom}
-use Rattle.table.specs.Tables.{markedIn, attendedIn, alarmedIn, warnedIn, acaClearedIn, losersOf}
+use Rattle.table.specs.Tables.{markedIn, attentionGoneIn, resetAttentionIn, clearedAttentionIn, acaClearedIn, othersOn}
 use Rattle.table.specs.Tables.{accepted, endedBy, started, restarted, finished, resetOf}
 use Rattle.table.specs.Setup.{badList, setupTable}
 use Rattle.table.specs.Sound.{isNoTask, ownedBy, soundOf}
@@ -24,9 +24,9 @@ pub record AnswersAreOne : Type 0 where
   pub unit-at : (t : Table) (unit : ℕ) → One (unitAt t unit)
   pub is-attached : (t : Table) (unit : ℕ) → One (isAttached t unit)
   pub mark : (paths : List path.Path) (p : ℕ) (full : Bool) → One (markedIn paths p full)
-  pub attend : (paths : List path.Path) (p : ℕ) → One (attendedIn paths p)
-  pub alarm : (paths : List path.Path) (count : ℕ) (unmark : Bool) → One (alarmedIn paths count unmark)
-  pub warn : (paths : List path.Path) (losers : ℕ) → One (warnedIn paths losers)
+  pub drop-attention : (paths : List path.Path) (p : ℕ) → One (attentionGoneIn paths p)
+  pub give-reset-attention : (paths : List path.Path) (count : ℕ) (unmark : Bool) → One (resetAttentionIn paths count unmark)
+  pub give-cleared-attention : (paths : List path.Path) (others : ℕ) → One (clearedAttentionIn paths others)
   pub clear-aca : (units : List unit.Unit) (place : Place) → One (acaClearedIn units place)
   pub pick : (t : Table) (s : Selection) → One (pickOf t s)
   pub task-at : (t : Table) (i : ℕ) → One (taskAt t i)
@@ -38,7 +38,7 @@ pub record AnswersAreOne : Type 0 where
   pub restart : (t : Table) (i offset : ℕ) → One (restarted t i offset)
   pub finish : (t : Table) (i : ℕ) (failed : Bool) (transferred : ℕ) → One (finished t i failed transferred)
   pub reset : (t : Table) → One (resetOf t)
-  pub losers : (t : Table) (unit sender : ℕ) → One (losersOf t unit sender)
+  pub others-on : (t : Table) (unit sender : ℕ) → One (othersOn t unit sender)
   pub bad-list : (ids : List ℕ) → One (badList ids)
   pub zero : One zeroTable
   pub new : (ids : List ℕ) (attached first : ℕ) → One (setupTable ids attached first)

@@ -1,6 +1,6 @@
 // Tasks: the scan that the table lends its records to, and what is accepted, started, finished, ended and reset.
 ghost use mathlib.Core.Path.{_≡_};
-ghost use Rattle.table.specs.Tables.{taskAt, pickOf, hasRoom, accepted, endedBy, started, restarted, finished, resetOf, losersOf};
+ghost use Rattle.table.specs.Tables.{taskAt, pickOf, hasRoom, accepted, endedBy, started, restarted, finished, resetOf, othersOn};
 ghost use Rattle.task.specs.Selections.{runningAs};
 ghost use mathlib.Core.Bool.{_&&_, not};
 ghost use lib.Dec.{ltb, eqb};
@@ -166,21 +166,21 @@ impl Table {
         ensures { λ r. ⌜ r ≡ resetOf self ⌝ }
     {
         let paths = self.paths;
-        let alarmed = crate::paths::alarm(paths, self.count, true);
+        let reset = crate::paths::give_reset_attention(paths, self.count, true);
         let unit = crate::paths::no_unit();
         let units = [unit; 8];
         let task = task::no_task();
         let tasks = [task; 64];
         self.live = 0;
-        self.paths = alarmed;
+        self.paths = reset;
         self.units = units;
         self.tasks = tasks;
         self
     }
 
     // The map of the listed paths, other than the sender's, that have a live task on the unit.
-    pub fn losers(self, unit: u8, sender: u8) -> u8
-        ensures { λ r. ⌜ r ≡ losersOf self unit sender ⌝ }
+    pub fn others_on(self, unit: u8, sender: u8) -> u8
+        ensures { λ r. ⌜ r ≡ othersOn self unit sender ⌝ }
     {
         let all = Selection::ALL;
         let mut map: u8 = 0;
@@ -192,7 +192,7 @@ impl Table {
                 ..all
             };
             let found = self.pick(s);
-            if is_loser(self.count, sender, p, found.found) {
+            if is_other_on(self.count, sender, p, found.found) {
                 map = with_path(map, p);
             }
             p += 1;
@@ -214,7 +214,7 @@ pub fn running_as(arrival: u64) -> Selection
 }
 
 // Whether the path at p loses a task: it is listed, not the sender's, and has one.
-fn is_loser(count: u8, sender: u8, p: u8, has: bool) -> bool
+fn is_other_on(count: u8, sender: u8, p: u8, has: bool) -> bool
     ensures { λ r. ⌜ r ≡ (ltb p count && (not (eqb p sender) && has)) ⌝ }
 {
     if p >= count {

@@ -1,7 +1,7 @@
 // Paths and units: what the rules ask of them, and how they change. A bad index changes nothing.
 ghost use mathlib.Core.Path.{_≡_};
 ghost use Rattle.table.specs.Tables;
-ghost use Rattle.table.specs.Tables.{pathAt, unitAt, hasId, placeOf, pathOf, isAttached, isNothing, isReset, markedIn, attendedIn, alarmedPath, alarmedIn, warnedPath, warnedIn, claimedIn, acaClearedIn};
+ghost use Rattle.table.specs.Tables.{pathAt, unitAt, hasId, placeOf, pathOf, isAttached, isNothing, isReset, markedIn, attentionGoneIn, withResetAttention, resetAttentionIn, withClearedAttention, clearedAttentionIn, claimedIn, acaClearedIn};
 use crate::Aca;
 use crate::Attention;
 use crate::PATHS;
@@ -59,8 +59,8 @@ fn reset_pending(a: Attention) -> bool
 }
 
 // The path with reset attention, and with `unmark` its mark gone.
-fn alarm_path(a: Path, unmark: bool) -> Path
-    ensures { λ r. ⌜ r ≡ alarmedPath unmark a ⌝ }
+fn with_reset_attention(a: Path, unmark: bool) -> Path
+    ensures { λ r. ⌜ r ≡ withResetAttention unmark a ⌝ }
 {
     if unmark {
         return Path {
@@ -76,8 +76,8 @@ fn alarm_path(a: Path, unmark: bool) -> Path
 }
 
 // The path with cleared attention, unless reset is pending.
-fn warn_path(a: Path) -> Path
-    ensures { λ r. ⌜ r ≡ warnedPath a ⌝ }
+fn with_cleared_attention(a: Path) -> Path
+    ensures { λ r. ⌜ r ≡ withClearedAttention a ⌝ }
 {
     let pending = a.attention;
     if reset_pending(pending) {
@@ -129,8 +129,8 @@ pub fn mark(mut paths: [Path; 8], p: usize, full: bool) -> [Path; 8]
 }
 
 // The path's pending attention becomes none.
-pub fn attend(mut paths: [Path; 8], p: usize) -> [Path; 8]
-    ensures { λ r. ⌜ r ≡ attendedIn paths p ⌝ }
+pub fn drop_attention(mut paths: [Path; 8], p: usize) -> [Path; 8]
+    ensures { λ r. ⌜ r ≡ attentionGoneIn paths p ⌝ }
 {
     if p >= PATHS {
         return paths;
@@ -145,15 +145,15 @@ pub fn attend(mut paths: [Path; 8], p: usize) -> [Path; 8]
 }
 
 // Reset attention on each of the first `count` paths, and with `unmark` its mark gone.
-pub fn alarm(mut paths: [Path; 8], count: u8, unmark: bool) -> [Path; 8]
-    ensures { λ r. ⌜ r ≡ alarmedIn paths count unmark ⌝ }
+pub fn give_reset_attention(mut paths: [Path; 8], count: u8, unmark: bool) -> [Path; 8]
+    ensures { λ r. ⌜ r ≡ resetAttentionIn paths count unmark ⌝ }
 {
     let n = count as usize;
     let mut p: usize = 0;
     while p < PATHS {
         if p < n {
             let a = paths[p];
-            let b = alarm_path(a, unmark);
+            let b = with_reset_attention(a, unmark);
             paths[p] = b;
         }
         p += 1;
@@ -162,14 +162,14 @@ pub fn alarm(mut paths: [Path; 8], count: u8, unmark: bool) -> [Path; 8]
 }
 
 // Cleared attention on each path of the map, unless reset is pending.
-pub fn warn(mut paths: [Path; 8], losers: u8) -> [Path; 8]
-    ensures { λ r. ⌜ r ≡ warnedIn paths losers ⌝ }
+pub fn give_cleared_attention(mut paths: [Path; 8], others: u8) -> [Path; 8]
+    ensures { λ r. ⌜ r ≡ clearedAttentionIn paths others ⌝ }
 {
     let mut p: usize = 0;
     while p < PATHS {
-        if bit_of(losers, p) {
+        if bit_of(others, p) {
             let a = paths[p];
-            let b = warn_path(a);
+            let b = with_cleared_attention(a);
             paths[p] = b;
         }
         p += 1;

@@ -1,7 +1,7 @@
 // The soundness check: a small function for each clause of page 01's "Sound means", and the pairwise walk.
 ghost use mathlib.Core.Path.{_≡_};
 ghost use Rattle.task.specs.Tasks.{isAca, isWaiting, isRunning};
-ghost use Rattle.table.specs.Sound.{isNoPath, isNoTask, ownedBy, mayStand, liveOk, recordOk, unitOk, countOk, pathsDistinct, unusedZero, recordsOk, unitsOk, clashOf, soundOf, acaAt, shareUnit};
+ghost use Rattle.table.specs.Sound.{isNoPath, isNoTask, ownedBy, mayStand, liveOk, recordOk, unitOk, countOk, pathsDistinct, unusedZero, recordsOk, unitsOk, clashOf, soundOf, acaAt, cannotShareUnit};
 ghost use Rattle.table.specs.Sound;
 use crate::Aca;
 use crate::PATHS;
@@ -169,15 +169,15 @@ fn alike(a: Task, b: Task) -> bool
             return true;
         }
     }
-    if !share_unit(a, b) {
+    if !cannot_share_unit(a, b) {
         return false;
     }
     a.unit == b.unit
 }
 
 // Both run, or both are ACA tasks.
-fn share_unit(a: Task, b: Task) -> bool
-    ensures { λ r. ⌜ r ≡ shareUnit a b ⌝ }
+fn cannot_share_unit(a: Task, b: Task) -> bool
+    ensures { λ r. ⌜ r ≡ cannotShareUnit a b ⌝ }
 {
     let p = a.phase;
     let q = b.phase;

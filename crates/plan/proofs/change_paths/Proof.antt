@@ -9,8 +9,8 @@ enum-told c = search needs
 enum-known-c : tie.Need-enum-known-c
 enum-known-c c = search needs
 
-set-mood-requires : tie.Need-set-mood-requires
-set-mood-requires c κs = search needs
+change-sender-requires : tie.Need-change-sender-requires
+change-sender-requires c κs = search needs
 
 enum-known-c-2 : tie.Need-enum-known-c-2
 enum-known-c-2 c = search needs
@@ -33,7 +33,7 @@ change-paths-spec =
     (tie.spec
     enum-told
     enum-known-c
-    set-mood-requires
+    change-sender-requires
     enum-known-c-2
     change-paths-requires
     returns

@@ -3,7 +3,7 @@ use mathlib.Core.Path.{_≡_, sym, _∙_}
 use mathlib.Core.Logic.{⊎-elim}
 use borrow.Author.Needs.{needs}
 use denote.Ref.{now}
-use Rattle.engine.specs.Calls.{acted, carriedOut}
+use Rattle.engine.specs.Calls.{withRecords, carriedOut}
 use Rattle.engine.proofs.Calling.{planHeard, unread, read-by, carries-out, answers, carries}
 use Rattle.engine.proofs.calls.message.Statement.{statement}
 use Rattle.engine.proofs.calls.message.Tie as tie
@@ -35,8 +35,8 @@ unit-asked-requires c κs = search needs
 clears-set-requires : tie.Need-clears-set-requires
 clears-set-requires c κs = search needs
 
-look-requires : tie.Need-look-requires
-look-requires c κs = search needs
+look-up-requires : tie.Need-look-up-requires
+look-up-requires c κs = search needs
 
 plan-for-requires : tie.Need-plan-for-requires
 plan-for-requires c κs = search needs
@@ -50,20 +50,20 @@ change-units-requires c κs = search needs
 enum-told : tie.Need-enum-told
 enum-told c = search needs
 
-enum-known-deed : tie.Need-enum-known-deed
-enum-known-deed c = search needs
+enum-known-records : tie.Need-enum-known-records
+enum-known-records c = search needs
 
 accept-requires : tie.Need-accept-requires
 accept-requires c κs = search needs
 
-enum-known-deed-2 : tie.Need-enum-known-deed-2
-enum-known-deed-2 c = search needs
+enum-known-records-2 : tie.Need-enum-known-records-2
+enum-known-records-2 c = search needs
 
 end-requires : tie.Need-end-requires
 end-requires c κs = search needs
 
-enum-known-deed-3 : tie.Need-enum-known-deed-3
-enum-known-deed-3 c = search needs
+enum-known-records-3 : tie.Need-enum-known-records-3
+enum-known-records-3 c = search needs
 
 restart-requires : tie.Need-restart-requires
 restart-requires c κs = search needs
@@ -81,7 +81,7 @@ same-length : tie.Need-same-length
 same-length c = search needs
 
 returns : tie.Need-returns
-unfolding acted
+unfolding withRecords
 returns c =
     -- h: where the ways of the deed meet; g: where the ways to the plan meet
     let h = c .before .before .before .before .before .before in
@@ -123,16 +123,16 @@ message-spec =
     tag-asked-requires
     unit-asked-requires
     clears-set-requires
-    look-requires
+    look-up-requires
     plan-for-requires
     change-paths-requires
     change-units-requires
     enum-told
-    enum-known-deed
+    enum-known-records
     accept-requires
-    enum-known-deed-2
+    enum-known-records-2
     end-requires
-    enum-known-deed-3
+    enum-known-records-3
     restart-requires
     reply-to-requires
     sender-of-requires

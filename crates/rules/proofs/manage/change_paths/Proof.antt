@@ -12,8 +12,8 @@ enum-told-2 c = search needs
 enum-told-3 : tie.Need-enum-told-3
 enum-told-3 c = search needs
 
-warn-requires : tie.Need-warn-requires
-warn-requires c κs = search needs
+give-cleared-attention-requires : tie.Need-give-cleared-attention-requires
+give-cleared-attention-requires c κs = search needs
 
 enum-told-4 : tie.Need-enum-told-4
 enum-told-4 c = search needs
@@ -21,14 +21,14 @@ enum-told-4 c = search needs
 enum-told-5 : tie.Need-enum-told-5
 enum-told-5 c = search needs
 
-alarm-requires : tie.Need-alarm-requires
-alarm-requires c κs = search needs
+give-reset-attention-requires : tie.Need-give-reset-attention-requires
+give-reset-attention-requires c κs = search needs
 
 enum-told-6 : tie.Need-enum-told-6
 enum-told-6 c = search needs
 
-alarm-requires-2 : tie.Need-alarm-requires-2
-alarm-requires-2 c κs = search needs
+give-reset-attention-requires-2 : tie.Need-give-reset-attention-requires-2
+give-reset-attention-requires-2 c κs = search needs
 
 returns : tie.Need-returns
 returns c = search needs
@@ -55,12 +55,12 @@ change-paths-spec =
     enum-told
     enum-told-2
     enum-told-3
-    warn-requires
+    give-cleared-attention-requires
     enum-told-4
     enum-told-5
-    alarm-requires
+    give-reset-attention-requires
     enum-told-6
-    alarm-requires-2
+    give-reset-attention-requires-2
     returns
     returns-2
     returns-3

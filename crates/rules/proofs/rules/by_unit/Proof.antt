@@ -12,8 +12,8 @@ returns : tie.Need-returns
 unfolding unitRules
 returns c = search first-cases depth 20
 
-barred-requires : tie.Need-barred-requires
-barred-requires c κs = search needs
+kept-out-by-aca-requires : tie.Need-kept-out-by-aca-requires
+kept-out-by-aca-requires c κs = search needs
 
 report-requires : tie.Need-report-requires
 report-requires c κs = search needs
@@ -22,8 +22,8 @@ returns-2 : tie.Need-returns-2
 unfolding unitRules
 returns-2 c = search first-cases depth 20
 
-stray-requires : tie.Need-stray-requires
-stray-requires c κs = search needs
+aca-kind-without-aca-requires : tie.Need-aca-kind-without-aca-requires
+aca-kind-without-aca-requires c κs = search needs
 
 check-requires-2 : tie.Need-check-requires-2
 check-requires-2 c κs = search needs
@@ -32,8 +32,8 @@ returns-3 : tie.Need-returns-3
 unfolding unitRules
 returns-3 c = search first-cases depth 20
 
-reset-pending-requires : tie.Need-reset-pending-requires
-reset-pending-requires c κs = search needs
+reset-to-report-requires : tie.Need-reset-to-report-requires
+reset-to-report-requires c κs = search needs
 
 check-requires-3 : tie.Need-check-requires-3
 check-requires-3 c κs = search needs
@@ -42,8 +42,8 @@ returns-4 : tie.Need-returns-4
 unfolding unitRules
 returns-4 c = search first-cases depth 20
 
-cleared-pending-requires : tie.Need-cleared-pending-requires
-cleared-pending-requires c κs = search needs
+cleared-to-report-requires : tie.Need-cleared-to-report-requires
+cleared-to-report-requires c κs = search needs
 
 check-requires-4 : tie.Need-check-requires-4
 check-requires-4 c κs = search needs
@@ -65,16 +65,16 @@ by-unit-spec =
     (tie.spec
     check-requires
     returns
-    barred-requires
+    kept-out-by-aca-requires
     report-requires
     returns-2
-    stray-requires
+    aca-kind-without-aca-requires
     check-requires-2
     returns-3
-    reset-pending-requires
+    reset-to-report-requires
     check-requires-3
     returns-4
-    cleared-pending-requires
+    cleared-to-report-requires
     check-requires-4
     returns-5
     by-block-requires

@@ -4,8 +4,8 @@ use Rattle.table.proofs.Changing.{reset-all}
 use Rattle.table.proofs.Table.reset.Statement.{statement}
 use Rattle.table.proofs.Table.reset.Tie as tie
 
-alarm-requires : tie.Need-alarm-requires
-alarm-requires c κs = search needs
+give-reset-attention-requires : tie.Need-give-reset-attention-requires
+give-reset-attention-requires c κs = search needs
 
 no-unit-requires : tie.Need-no-unit-requires
 no-unit-requires c κs = search needs
@@ -17,4 +17,4 @@ returns : tie.Need-returns
 returns c = search reset-all
 
 pub reset-spec : {M : Type 1} → statement M
-reset-spec = tie.close (tie.spec alarm-requires no-unit-requires no-task-requires returns)
+reset-spec = tie.close (tie.spec give-reset-attention-requires no-unit-requires no-task-requires returns)

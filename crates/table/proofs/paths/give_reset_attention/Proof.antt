@@ -1,4 +1,4 @@
--- `paths::alarm` meets its contract. The loop's invariant: the listed paths below p are alarmed, the others as they were. Assumes nothing.
+-- `paths::give_reset_attention` meets its contract. The loop's invariant: the listed paths below p are alarmed, the others as they were. Assumes nothing.
 use Prim.Native.Nat.{_≤_, _-_}
 use mathlib.Core.Path.{_≡_}
 use mathlib.Core.Logic.{⊎-elim}
@@ -7,12 +7,12 @@ use lib.Dec.{ltb}
 use borrow.Author.Needs.{needs}
 use Rattle.table.proofs.Lists.{unmapped}
 use Rattle.table.proofs.Changing.{pathsBelow, path-loop, paths-end}
-use Rattle.table.specs.Tables.{alarmedPath, alarmedIn}
-use Rattle.table.proofs.paths.alarm.Statement.{statement}
-use Rattle.table.proofs.paths.alarm.Tie as tie
+use Rattle.table.specs.Tables.{withResetAttention, resetAttentionIn}
+use Rattle.table.proofs.paths.give_reset_attention.Statement.{statement}
+use Rattle.table.proofs.paths.give_reset_attention.Tie as tie
 
 abbrev Inv-loop : tie.InvT-loop
-Inv-loop count unmark paths₀ n p₀ paths p = (p ≤ 8) × (paths ≡ pathsBelow paths₀ (λ k. ltb k n) (alarmedPath unmark) p)
+Inv-loop count unmark paths₀ n p₀ paths p = (p ≤ 8) × (paths ≡ pathsBelow paths₀ (λ k. ltb k n) (withResetAttention unmark) p)
 
 abbrev μ-loop : tie.MeasureT-loop
 μ-loop count unmark paths₀ n p₀ paths p = 8 - p
@@ -26,8 +26,8 @@ mul-a c = search needs
 array-copy-out-a : tie.Need-array-copy-out-a Inv-loop μ-loop
 array-copy-out-a c = search needs
 
-alarm-path-requires : tie.Need-alarm-path-requires Inv-loop μ-loop
-alarm-path-requires c κs = search needs
+with-reset-attention-requires : tie.Need-with-reset-attention-requires Inv-loop μ-loop
+with-reset-attention-requires c κs = search needs
 
 mul-paths : tie.Need-mul-paths Inv-loop μ-loop
 mul-paths c = search needs
@@ -45,11 +45,11 @@ loop-again : tie.Need-loop-again Inv-loop μ-loop
 loop-again c = ⊎-elim (λ w. (omega arith, search (needs, path-loop))) (λ w. (omega arith, search (needs, path-loop))) (c .if1 .came)
 
 returns : tie.Need-returns Inv-loop μ-loop
-unfolding alarmedIn
+unfolding resetAttentionIn
 returns c = paths-end _ _ _ _ (c .before .loop .inv .1) (omega arith) (omega arith) (search (needs, unmapped))
 
-pub alarm-spec : {M : Type 1} → statement M
-alarm-spec =
+pub give-reset-attention-spec : {M : Type 1} → statement M
+give-reset-attention-spec =
     tie.close
     (tie.spec
     Inv-loop
@@ -57,7 +57,7 @@ alarm-spec =
     loop-holds
     mul-a
     array-copy-out-a
-    alarm-path-requires
+    with-reset-attention-requires
     mul-paths
     array-set-from-paths
     add-p

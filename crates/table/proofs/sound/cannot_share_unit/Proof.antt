@@ -1,9 +1,9 @@
--- `sound::share_unit` meets its contract: both run, or both are ACA tasks. Assumes nothing.
+-- `sound::cannot_share_unit` meets its contract: both run, or both are ACA tasks. Assumes nothing.
 use mathlib.Core.Logic.{⊎-elim}
 use borrow.Author.Needs.{needs}
 use Rattle.task.proofs.Ways.{ways}
-use Rattle.table.proofs.sound.share_unit.Statement.{statement}
-use Rattle.table.proofs.sound.share_unit.Tie as tie
+use Rattle.table.proofs.sound.cannot_share_unit.Statement.{statement}
+use Rattle.table.proofs.sound.cannot_share_unit.Tie as tie
 
 is-running-requires : tie.Need-is-running-requires
 is-running-requires c κs = search needs
@@ -26,8 +26,8 @@ returns-2 c = ⊎-elim (λ w. search ways) (λ w. search ways) (c .before .befor
 returns-3 : tie.Need-returns-3
 returns-3 c = ⊎-elim (λ w. search ways) (λ w. search ways) (c .before .before .if1 .came)
 
-pub share-unit-spec : {M : Type 1} → statement M
-share-unit-spec =
+pub cannot-share-unit-spec : {M : Type 1} → statement M
+cannot-share-unit-spec =
     tie.close
     (tie.spec
     is-running-requires

@@ -1,7 +1,7 @@
--- `plan::set_mood` meets its contract. Assumes nothing.
+-- `plan::change_sender` meets its contract. Assumes nothing.
 use borrow.Author.Needs.{needs}
-use Rattle.plan.proofs.set_mood.Statement.{statement}
-use Rattle.plan.proofs.set_mood.Tie as tie
+use Rattle.plan.proofs.change_sender.Statement.{statement}
+use Rattle.plan.proofs.change_sender.Tie as tie
 
 enum-told : tie.Need-enum-told
 enum-told c = search needs
@@ -24,8 +24,8 @@ enum-told-4 c = search needs
 mark-requires-3 : tie.Need-mark-requires-3
 mark-requires-3 c κs = search needs
 
-attend-requires : tie.Need-attend-requires
-attend-requires c κs = search needs
+drop-attention-requires : tie.Need-drop-attention-requires
+drop-attention-requires c κs = search needs
 
 returns : tie.Need-returns
 returns c = search needs
@@ -39,8 +39,8 @@ returns-3 c = cc
 returns-4 : tie.Need-returns-4
 returns-4 c = cc
 
-pub set-mood-spec : {M : Type 1} → statement M
-set-mood-spec =
+pub change-sender-spec : {M : Type 1} → statement M
+change-sender-spec =
     tie.close
     (tie.spec
     enum-told
@@ -50,7 +50,7 @@ set-mood-spec =
     mark-requires-2
     enum-told-4
     mark-requires-3
-    attend-requires
+    drop-attention-requires
     returns
     returns-2
     returns-3

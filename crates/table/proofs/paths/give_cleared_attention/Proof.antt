@@ -1,4 +1,4 @@
--- `paths::warn` meets its contract. The loop's invariant: the paths of the map below p are warned, the others as they were. Assumes nothing.
+-- `paths::give_cleared_attention` meets its contract. The loop's invariant: the paths of the map below p are warned, the others as they were. Assumes nothing.
 use Prim.Native.Nat.{_≤_, _-_}
 use mathlib.Core.Path.{_≡_}
 use mathlib.Core.Logic.{⊎-elim}
@@ -6,15 +6,15 @@ use native.Mathlib.Omega.{arith}
 use borrow.Author.Needs.{needs}
 use Rattle.table.proofs.Lists.{unmapped}
 use Rattle.table.proofs.Changing.{pathsBelow, path-loop, paths-end}
-use Rattle.table.specs.Tables.{bitOf, warnedPath, warnedIn}
-use Rattle.table.proofs.paths.warn.Statement.{statement}
-use Rattle.table.proofs.paths.warn.Tie as tie
+use Rattle.table.specs.Tables.{bitOf, withClearedAttention, clearedAttentionIn}
+use Rattle.table.proofs.paths.give_cleared_attention.Statement.{statement}
+use Rattle.table.proofs.paths.give_cleared_attention.Tie as tie
 
 abbrev Inv-loop : tie.InvT-loop
-Inv-loop losers paths₀ p₀ paths p = (p ≤ 8) × (paths ≡ pathsBelow paths₀ (bitOf losers) warnedPath p)
+Inv-loop others paths₀ p₀ paths p = (p ≤ 8) × (paths ≡ pathsBelow paths₀ (bitOf others) withClearedAttention p)
 
 abbrev μ-loop : tie.MeasureT-loop
-μ-loop losers paths₀ p₀ paths p = 8 - p
+μ-loop others paths₀ p₀ paths p = 8 - p
 
 loop-holds : tie.Need-loop-holds Inv-loop μ-loop
 loop-holds c = (omega arith, search path-loop)
@@ -28,8 +28,8 @@ mul-a c = search needs
 array-copy-out-a : tie.Need-array-copy-out-a Inv-loop μ-loop
 array-copy-out-a c = search needs
 
-warn-path-requires : tie.Need-warn-path-requires Inv-loop μ-loop
-warn-path-requires c κs = search needs
+with-cleared-attention-requires : tie.Need-with-cleared-attention-requires Inv-loop μ-loop
+with-cleared-attention-requires c κs = search needs
 
 mul-paths : tie.Need-mul-paths Inv-loop μ-loop
 mul-paths c = search needs
@@ -47,11 +47,11 @@ loop-again : tie.Need-loop-again Inv-loop μ-loop
 loop-again c = ⊎-elim (λ w. (omega arith, search (needs, path-loop))) (λ w. (omega arith, search (needs, path-loop))) (c .if1 .came)
 
 returns : tie.Need-returns Inv-loop μ-loop
-unfolding warnedIn
+unfolding clearedAttentionIn
 returns c = paths-end _ _ _ _ (c .before .loop .inv .1) (omega arith) (omega arith) (search (needs, unmapped))
 
-pub warn-spec : {M : Type 1} → statement M
-warn-spec =
+pub give-cleared-attention-spec : {M : Type 1} → statement M
+give-cleared-attention-spec =
     tie.close
     (tie.spec
     Inv-loop
@@ -60,7 +60,7 @@ warn-spec =
     bit-of-requires
     mul-a
     array-copy-out-a
-    warn-path-requires
+    with-cleared-attention-requires
     mul-paths
     array-set-from-paths
     add-p

@@ -1,9 +1,9 @@
--- `rules::look` meets its contract. Assumes nothing.
+-- `rules::look_up` meets its contract. Assumes nothing.
 use mathlib.Core.Logic.{⊎-elim}
 use borrow.Author.Needs.{needs}
-use Rattle.rules.proofs.Cases.{look-cases}
-use Rattle.rules.proofs.rules.look.Statement.{statement}
-use Rattle.rules.proofs.rules.look.Tie as tie
+use Rattle.rules.proofs.Cases.{look-up-cases}
+use Rattle.rules.proofs.rules.look_up.Statement.{statement}
+use Rattle.rules.proofs.rules.look_up.Tie as tie
 
 path-at-requires : tie.Need-path-at-requires
 path-at-requires c κs = search needs
@@ -17,8 +17,8 @@ pick-requires c κs = search needs
 pick-requires-2 : tie.Need-pick-requires-2
 pick-requires-2 c κs = search needs
 
-losers-requires : tie.Need-losers-requires
-losers-requires c κs = search needs
+others-on-requires : tie.Need-others-on-requires
+others-on-requires c κs = search needs
 
 has-room-requires : tie.Need-has-room-requires
 has-room-requires c κs = search needs
@@ -33,17 +33,17 @@ owned-by-requires : tie.Need-owned-by-requires
 owned-by-requires c κs = search needs
 
 returns : tie.Need-returns
-returns c = ⊎-elim (λ w. search look-cases) (λ w. search look-cases) (c .before .before .before .before .if1 .came)
+returns c = ⊎-elim (λ w. search look-up-cases) (λ w. search look-up-cases) (c .before .before .before .before .if1 .came)
 
-pub look-spec : {M : Type 1} → statement M
-look-spec =
+pub look-up-spec : {M : Type 1} → statement M
+look-up-spec =
     tie.close
     (tie.spec
     path-at-requires
     unit-at-requires
     pick-requires
     pick-requires-2
-    losers-requires
+    others-on-requires
     has-room-requires
     is-attached-requires
     has-aca-requires
