@@ -15,7 +15,7 @@ use table::Aca;
 use table::Attention;
 use table::PATHS;
 use table::Path;
-use table::RECORDS;
+use task::RECORDS;
 use table::Table;
 use table::UNITS;
 use table::Unit;

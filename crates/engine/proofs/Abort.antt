@@ -22,10 +22,11 @@ use Rattle.table.specs.Promises.{Good}
 use Rattle.table.specs.declared.Table.{Table}
 use Rattle.table.proofs.Views.{some-any, any-some, any-is-found}
 use Rattle.table.proofs.Exact.{check-is-exact}
-use Rattle.rules.specs.Rules.{factsOf, lookupOf}
+use Rattle.rules.specs.Facts.{factsOf, lookupOf}
 use Rattle.rules.specs.Management.{orderCode}
 use Rattle.rules.specs.declared.manage.Order.the-variants as order
-use Rattle.plan.specs.Plans.{unitAsked, clearsSet}
+use Rattle.reply.specs.declared.Reply.the-variants as reply
+use Rattle.plan.specs.Plans.{unitAsked}
 use Rattle.plan.specs.declared.Request.{Request}
 use Rattle.plan.specs.declared.Request.the-variants.{Manage}
 use Rattle.plan.specs.declared.Plan.{Plan}
@@ -75,7 +76,7 @@ same-taken {path = path} {t = t} {u = u} g h a tag =
 -- ---- the answer, by the sender's place and whether it has the task
 
 abbrev response : List ℕ → ℕ → Bool → Answer
-response m tag taken = answer.Response tag (cond (reservedSet m) Paper.invalidField (cond taken Paper.done Paper.taskNotFound))
+response m tag taken = answer.Reply (reply.Response tag (cond (reservedSet m) Paper.invalidField (cond taken Paper.done Paper.taskNotFound)))
 
 abbrev abortAnswer : List ℕ → ℕ → ℕ → Bool → Answer
 abortAnswer m tag p taken = cond (ltb p 8) (response m tag taken) (answer.Refused Paper.unknownPath)
@@ -92,7 +93,7 @@ module _ (t : Table) (m : List ℕ) (path tag tag2 : ℕ) where
 
   plan-answer : planAt t m p tag abort .answer ≡ response m tag (pickOf t (named p tag2) .found)
   unfolding planAt lookupOf orderCode factsOf
-  plan-answer = order-answer (factsOf t p tag2 (unitAsked abort) (clearsSet abort)) p tag m (order.AbortTask tag2)
+  plan-answer = order-answer (factsOf t p tag2 (unitAsked abort)) _ p tag m (order.AbortTask tag2)
 
   for-answer : planFor t m path tag abort .answer ≡ defined
   unfolding planFor

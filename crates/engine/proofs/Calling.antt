@@ -1,47 +1,52 @@
 -- The calls: a lemma for each way out. Assumes nothing.
 --     gates      for `search`, a call that makes one test after another, under `unfolding` of its definition: what it refuses, and what comes after the last test
 --     heard-all, goes-next, judged      what comes after the last test of `heard`, `choose` and `judge`; picks, chosen: what is picked there
---     plan-ways, reply-ways, go-ways, may-ways, reset-ways, setup-ways      for `search`, the ways out of the functions so named
+--     plan-ways, go-ways, may-ways, reset-ways, setup-ways      for `search`, the ways out of the functions so named
 --     unread, read-by, carries-out, carries      a message: the plan for what was heard, the table after it, and the outcome
 --     starts, finishes      the outcome by the verdict
 --     answers      the contract of a call with a reply buffer
 use Prim.Native.Nat.{ℕ, _<_, _≤_}
-use mathlib.Core.Path.{_≡_, refl, _∙_}
+use mathlib.Core.Path.{_≡_, refl, sym, _∙_}
 use mathlib.Core.Bool.{Bool, true, false, cond, not, _&&_, _||_}
-use mathlib.Core.List.{List}
+use mathlib.Core.List.{List, [], _∷_}
+use mathlib.Core.Option.{none}
 use lib.Dec.{eqb, leb, ltb}
+use denote.Enum.Declared.{tagOf}
+use types.Run.{OneOf, miss}
 use borrow.Author.Tests.{lt-ltb, le-ltb, le-leb, lt-leb, eq-eqb, ne-eqb}
 use Rattle.wire.specs.Paper
 use Rattle.wire.specs.Messages.{readOf}
 use Rattle.wire.specs.declared.codes.Refusal.{Refusal}
-use Rattle.wire.specs.declared.codes.ReturnCode.{ReturnCode}
 use Rattle.wire.specs.declared.codes.StatusByte.{StatusByte}
 use Rattle.wire.specs.declared.codes.Sense.{Sense}
 use Rattle.wire.specs.declared.message.Message.{Message}
 use Rattle.reply.specs.Calls.{leftOf}
+use Rattle.reply.specs.declared.Reply.{Reply}
 use Rattle.reply.specs.declared.Reply.the-variants as reply
 use Rattle.task.specs.Selections.{waitingOn, acaWaitingOn, runningAs}
 use Rattle.task.specs.declared.scan.Pick.{Pick}
 use Rattle.task.specs.declared.select.Selection.{Selection}
 use Rattle.task.proofs.Ways.{answered-true, answered-false}
-use Rattle.table.specs.Tables.{pathOf, pathAt, unitAt, pickOf, started, finished, resetOf}
+use Rattle.table.specs.Tables.{pathOf, pathAt, unitAt, hasAca, pickOf, othersOn, started, finished, resetOf}
 use Rattle.table.specs.Setup.{badList, setupTable}
 use Rattle.table.specs.Sound.{soundOf}
 use Rattle.table.specs.declared.Aca.{Aca}
 use Rattle.table.specs.declared.Path as path
 use Rattle.table.specs.declared.Unit as unit
 use Rattle.table.specs.declared.Table.{Table}
-use Rattle.rules.specs.Rules.{hasAca, lookupOf}
-use Rattle.rules.specs.declared.rules.Lookup.{Lookup}
-use Rattle.plan.specs.Plans.{askedOf, tagAsked, unitAsked, clearsSet, refusing, planOf, pathsAfter, unitsAfter}
+use Rattle.rules.specs.Facts.{factsOf, lookupOf}
+use Rattle.rules.specs.declared.facts.Lookup.{Lookup}
+use Rattle.plan.specs.Plans.{askedOf, tagAsked, unitAsked, clearsSet, replyOf, refusing, planOf, pathsAfter, unitsAfter}
 use Rattle.plan.specs.declared.Request.{Request}
 use Rattle.plan.specs.declared.Asked.{Asked}
 use Rattle.plan.specs.declared.Asked.the-variants.{By, Unread}
 use Rattle.plan.specs.declared.RecordChange.{RecordChange}
 use Rattle.plan.specs.declared.Plan.{Plan}
+use Rattle.plan.proofs.Answer.{the-type}
+use Rattle.plan.proofs.Promises.{others-unasked}
 use Rattle.plan.specs.declared.Answer.{Answer}
 use Rattle.plan.specs.declared.Answer.the-variants as answer
-use Rattle.engine.specs.Calls.{out, refused, heardOf, senderOf, planAt, planFor, withRecords, carriedOut, replyPath, carried, answeredTo, messageOf, verdict, settled, mayGo, choiceOn, goes, startVerdict, startOf, sentSense, runningTask, failed, finishVerdict, finishOf, totalResetOf, setupOf, replied, Answers}
+use Rattle.engine.specs.Calls.{out, refused, heardOf, senderOf, planAt, planFor, withRecords, carriedOut, replyPath, carried, answeredTo, messageOf, verdict, settled, mayGo, choiceOn, goes, startVerdict, startOf, sentSense, runningTask, failed, finishVerdict, finishOf, totalResetOf, setupOf, replied, Answers, isAccepted}
 use Rattle.engine.specs.declared.Outcome.{Outcome}
 use Rattle.engine.specs.declared.calls.Verdict.{Verdict}
 
@@ -86,15 +91,22 @@ unfoldable pub planHeard : Table → List ℕ → Asked → Plan
 planHeard t m (Unread n) = refusing n
 planHeard t m (By path tag w) = planFor t m path tag w
 
+-- who else has a task on the unit is asked only where the plan goes by it
+others-alike : (t : Table) (m : List ℕ) (p tag next n u : ℕ) (b : Bool) (w : Request) → b ≡ clearsSet w
+    → planOf (lookupOf t p n u (cond b (othersOn t u p) 0)) next p tag m w ≡ planOf (lookupOf t p n u (othersOn t u p)) next p tag m w
+unfolding lookupOf
+others-alike t m p tag next n u true w e = refl
+others-alike t m p tag next n u false w e = others-unasked (factsOf t p n u) _ 0 (othersOn t u p) next p tag m w (sym e)
+
 module _ (t : Table) (m : List ℕ) {a : Asked} {pl : Plan} where
   pub unread : {n : Refusal} → a ≡ Unread n → pl ≡ refusing n → pl ≡ planHeard t m a
   unfolding planHeard
   unread e h = rw e h
 
   pub read-by : {path tag p n u : ℕ} {b : Bool} {w : Request} {s : Lookup} → a ≡ By path tag w → p ≡ pathOf t path → n ≡ tagAsked tag w → u ≡ unitAsked w → b ≡ clearsSet w
-      → s ≡ lookupOf t p n u b → pl ≡ cond (ltb p 8) (planOf s (t .next) p tag m w) (refusing Paper.unknownPath) → pl ≡ planHeard t m a
+      → s ≡ lookupOf t p n u (cond b (othersOn t u p) 0) → pl ≡ cond (ltb p 8) (planOf s (t .next) p tag m w) (refusing Paper.unknownPath) → pl ≡ planHeard t m a
   unfolding planHeard planFor planAt
-  read-by e p n u b s h = h ∙ rw (e, s, n, u, b, p)
+  read-by {tag = tag} {w = w} e p n u b s h = h ∙ rw (e, s, others-alike t m _ tag (t .next) _ _ _ w b, n, u, p)
 
 -- the plan carried out: paths and units, then the records
 module _ (t : Table) (pl : Plan) {paths : List path.Path} {units : List unit.Unit} (e : paths ≡ pathsAfter (t .paths) (t .count) (pl .change)) (h : units ≡ unitsAfter (t .units) (pl .change)) where
@@ -112,20 +124,36 @@ carried-heard t m (By path tag w) = refl
 
 -- ---- the reply
 
-module _ {a : Answer} (buf : List ℕ) {tag : ℕ} {left : List ℕ} where
-  pub responds : {code : ReturnCode} → a ≡ answer.Response tag code → left ≡ leftOf (reply.Response tag code) buf → left ≡ replied a buf
-  unfolding replied
-  responds e h = rw e h
+-- what a match tells of its last arm: the answer is of none of the sorts named before it, so it is no reply, or not an acceptance
+abbrev noReplies : List ℕ
+noReplies = 0 ∷ 1 ∷ 3 ∷ 4 ∷ 5 ∷ 6 ∷ 7 ∷ []
 
-  pub reports : {x : StatusByte} {s : Sense} → a ≡ answer.Status tag x s → left ≡ leftOf (reply.Status tag x s) buf → left ≡ replied a buf
-  unfolding replied
-  reports e h = rw e h
+abbrev notAccepting : List ℕ
+notAccepting = 0 ∷ 2 ∷ 3 ∷ 4 ∷ 5 ∷ 6 ∷ 7 ∷ []
 
-  pub faults : a ≡ answer.Invalid tag → left ≡ leftOf (reply.Invalid tag) buf → left ≡ replied a buf
-  unfolding replied
-  faults e h = rw e h
+pub no-reply : (a : Answer) → OneOf noReplies (tagOf the-type a) → replyOf a ≡ none
+no-reply answer.Ready k = refl
+no-reply (answer.Accepted n) k = refl
+no-reply (answer.Reply r) k = absurd (miss noReplies 2 tt k)
+no-reply (answer.Started offset arrival) k = refl
+no-reply (answer.Confirmed n) k = refl
+no-reply (answer.Restarted n) k = refl
+no-reply answer.Reset k = refl
+no-reply (answer.Refused n) k = refl
 
-pub ruleset reply-ways = (responds, reports, faults)
+pub not-accepted : (a : Answer) → OneOf notAccepting (tagOf the-type a) → isAccepted a ≡ false
+not-accepted answer.Ready k = refl
+not-accepted (answer.Accepted n) k = absurd (miss notAccepting 1 tt k)
+not-accepted (answer.Reply r) k = refl
+not-accepted (answer.Started offset arrival) k = refl
+not-accepted (answer.Confirmed n) k = refl
+not-accepted (answer.Restarted n) k = refl
+not-accepted answer.Reset k = refl
+not-accepted (answer.Refused n) k = refl
+
+pub sends : {a : Answer} (buf : List ℕ) {r : Reply} {left : List ℕ} → a ≡ answer.Reply r → left ≡ leftOf r buf → left ≡ replied a buf
+unfolding replied
+sends buf e h = rw e h
 
 -- the contract of a call with a reply buffer
 pub answers : {d o : Outcome} {buf left : List ℕ} → o ≡ d → left ≡ replied (o .answer) buf → Answers d buf o left
@@ -139,11 +167,11 @@ carries t m room s h p c f d = rw (c, d, f, p, h, s) (carried-heard t m (heardOf
 -- ---- start
 
 module _ (aca : Aca) (lun : ℕ) {b : Bool} (e : b ≡ hasAca aca) where
-  pub go-aca : b ≡ true → acaWaitingOn lun ≡ mayGo aca lun
-  go-aca h = rw (← e, h)
+  pub go-aca : {s : Selection} → b ≡ true → s ≡ acaWaitingOn lun → s ≡ mayGo aca lun
+  go-aca h k = rw (← e, h) k
 
-  pub go-any : b ≡ false → waitingOn lun ≡ mayGo aca lun
-  go-any h = rw (← e, h)
+  pub go-any : {s : Selection} → b ≡ false → s ≡ waitingOn lun → s ≡ mayGo aca lun
+  go-any h k = rw (← e, h) k
 
 pub ruleset go-ways = (go-aca, go-any)
 
@@ -178,8 +206,8 @@ next-status y h e = rw (ne-eqb _ _ h) e
 pub ruleset may-ways = (bad-key, good-key, this-status, next-status)
 
 pub judged : (t : Table) (arrival : ℕ) (x : StatusByte) (s : Sense) {p : Pick} {from : path.Path} {k : Sense} → p ≡ pickOf t (runningAs arrival) → from ≡ pathAt t (p .task .path) → k ≡ sentSense x s
-    → verdict (answer.Status (p .task .tag) x k) (p .at) (from .id)
-    ≡ verdict (answer.Status (runningTask t arrival .tag) x (sentSense x s)) (pickOf t (runningAs arrival) .at) (pathAt t (runningTask t arrival .path) .id)
+    → verdict (answer.Reply (reply.Status (p .task .tag) x k)) (p .at) (from .id)
+    ≡ verdict (answer.Reply (reply.Status (runningTask t arrival .tag) x (sentSense x s))) (pickOf t (runningAs arrival) .at) (pathAt t (runningTask t arrival .path) .id)
 judged t arrival x s e f k = rw (k, f, e)
 
 pub finishes : (t : Table) (arrival : ℕ) (x : StatusByte) (s : Sense) (transferred n : ℕ) {v : Verdict} {u : Table} → v ≡ finishVerdict t arrival x s n

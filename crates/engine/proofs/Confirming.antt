@@ -1,7 +1,7 @@
 -- What becomes of a task that waits to be confirmed: `confirmed` ends it, `restarted` has it wait again, and every other record stays. Assumes nothing.
 use Prim.Native.Nat.{ℕ, _<_, _≤_}
 use mathlib.Core.Path.{_≡_, refl, sym, ap, subst, _∙_}
-use mathlib.Core.Bool.{Bool, true}
+use mathlib.Core.Bool.{Bool, true, false}
 use mathlib.Core.List.{List}
 use mathlib.Core.Option.{Option, none, some}
 use lib.ListN.{length}
@@ -18,8 +18,8 @@ use Rattle.table.specs.Tables.{pathOf, pickOf, endedBy, restarted}
 use Rattle.table.specs.View.{at}
 use Rattle.table.specs.Promises.{Good}
 use Rattle.table.specs.declared.Table.{Table}
-use Rattle.table.proofs.Views.{live-at, spared, at-ended, altered-at, altered-other, pick-at}
-use Rattle.rules.specs.Rules.{lookupOf}
+use Rattle.table.proofs.Views.{OnlyTasks, live-at, spared, at-ended, ended-only, ended-next, altered-at, altered-other, altered-only, altered-next, pick-at}
+use Rattle.rules.specs.Facts.{lookupOf}
 use Rattle.plan.specs.Plans.{askedOf, isAwaited}
 use Rattle.plan.specs.declared.Request.the-variants.{Confirm}
 use Rattle.plan.specs.declared.Asked.the-variants.{By}
@@ -27,26 +27,20 @@ use Rattle.plan.specs.declared.Plan.{Plan}
 use Rattle.plan.specs.declared.Answer.{Answer}
 use Rattle.plan.specs.declared.Answer.the-variants as answer
 use Rattle.engine.specs.Calls.{planAt, withRecords, carriedOut, messageOf, replied}
-use Rattle.engine.specs.Promises.{Awaited, ConfirmsItsOwn}
+use Rattle.engine.specs.Promises.{Awaited, OnlyRecord, ConfirmsItsOwn}
 use Rattle.engine.specs.declared.Outcome.{Outcome}
 use Rattle.engine.proofs.Outcomes.{each-message, each-confirm, left-by}
 
--- every other record than i is in u as in t
-abbrev Others : Table → Table → ℕ → Type 0
-Others t u i = (j : ℕ) → j < 64 → (j ≡ i → ⊥) → at u j ≡ at t j
-
-module _ (t : Table) (path tag offset : ℕ) where
+module _ (t : Table) (path tag offset : ℕ) (complete : Bool) where
   -- what an answer to a confirmation means for the table after it
   abbrev Meant : Answer → Table → Type 0
   Meant answer.Ready u = Unit {0}
   Meant (answer.Accepted n) u = Unit {0}
-  Meant (answer.Response tag code) u = Unit {0}
-  Meant (answer.Status tag status sense) u = Unit {0}
-  Meant (answer.Invalid tag) u = Unit {0}
+  Meant (answer.Reply r) u = Unit {0}
   Meant (answer.Started offset arrival) u = Unit {0}
-  Meant (answer.Confirmed n) u = (i : ℕ) × (a : Task) × Awaited t path tag n i a × (at u i ≡ none) × Others t u i
+  Meant (answer.Confirmed n) u = (complete ≡ true) × (i : ℕ) × (a : Task) × Awaited t path tag n i a × (at u i ≡ none) × OnlyRecord i t u
   Meant (answer.Restarted n) u =
-      (i : ℕ) × (a : Task) × Awaited t path tag n i a × (offset ≤ a .transferred) × (at u i ≡ some (restarts offset a)) × Others t u i
+      (complete ≡ false) × (i : ℕ) × (a : Task) × Awaited t path tag n i a × (offset ≤ a .transferred) × (at u i ≡ some (restarts offset a)) × OnlyRecord i t u
   Meant answer.Reset u = Unit {0}
   Meant (answer.Refused n) u = Unit {0}
 
@@ -73,7 +67,7 @@ module _ (t : Table) (path tag offset : ℕ) where
       unfolding picks
       ends = at-ended t s i (g .shaped) (w .below) ∙ rw (w .here, eq-eqb (a .arrival) (a .arrival) refl, eq-eqb _ _ (w .sender), eq-eqb _ _ (w .named))
 
-      ends-no-other : Others t (endedBy t s) i
+      ends-no-other : (j : ℕ) → j < 64 → (j ≡ i → ⊥) → at (endedBy t s) j ≡ at t j
       ends-no-other j l n = at-ended t s j (g .shaped) l ∙ stays (at t j) refl
         where
           stays : (x : Option Task) → at t j ≡ x → spared s x ≡ x
@@ -81,16 +75,29 @@ module _ (t : Table) (path tag offset : ℕ) where
           stays (some b) e = cond-ind (λ (x : Option Task). x ≡ some b) (picks s b)
               (λ q. absurd (n (g .sound .one-arrival j i b a l (w .below) e (w .here) (eqb-true _ _ (meets s b q .number))))) (λ _. refl)
 
+      -- where the records alone change, and only that one
+      only : (u : Table) → OnlyTasks t u → u .next ≡ t .next → ((j : ℕ) → j < 64 → (j ≡ i → ⊥) → at u j ≡ at t j) → OnlyRecord i t u
+      only u o n records = record {
+        records = records;
+        next = n;
+        count = ap (λ (x : Table). x .count) (o .rest);
+        attached = ap (λ (x : Table). x .attached) (o .rest);
+        paths = ap (λ (x : Table). x .paths) (o .rest);
+        units = ap (λ (x : Table). x .units) (o .rest);
+      }
+
       goes-again : at (restarted t i offset) i ≡ some (restarts offset a)
       goes-again = altered-at t i _ (g .shaped) (w .below) (w .here) ∙ ap (λ (x : Task). some (restarts offset x)) (live-at t i (w .here) .1)
 
-    module _ (m : List ℕ) (complete : Bool) where
+    module _ (m : List ℕ) where
       plan-meant : Meant (planAt t m p tag (Confirm offset complete) .answer) (carriedOut t (planAt t m p tag (Confirm offset complete)))
       unfolding planAt lookupOf carriedOut withRecords
       plan-meant =
           each-confirm (λ (pl : Plan). Meant (pl .answer) (carriedOut t pl)) own p tag m offset complete tt tt
-          (λ e. let w = awaited e in (own .at, own .task, w, ends w, ends-no-other w))
-          (λ e l. let w = awaited e in (own .at, own .task, w, l, goes-again w, λ j _. altered-other t (own .at) _ j))
+          (λ e c. let w = awaited e in (c, own .at, own .task, w, ends w, only w _ (ended-only t _) (ended-next t _) (ends-no-other w)))
+          (λ e c l.
+          let w = awaited e in
+          (c, own .at, own .task, w, l, goes-again w, only w _ (altered-only t (own .at) _) (altered-next t (own .at) _) (λ j _. altered-other t (own .at) _ j)))
 
       -- the outcome of a call that is asked for it
       meant : askedOf (readOf m) ≡ By path tag (Confirm offset complete) → (n : ℕ) → Meant (messageOf t m n .answer) (messageOf t m n .table)
@@ -110,7 +117,7 @@ pub confirms-its-own : ConfirmsItsOwn
 unfolding replied
 confirms-its-own = record {
   confirmed = λ t m buf o left path tag offset arrival complete g x e h.
-      let r = told t path tag offset g m complete (length buf) e (x .outcome) h in (r .0, r .1, r .2, r .3, r .4, left-by buf x h);
+      let r = told t path tag offset complete g m (length buf) e (x .outcome) h in (r .0, r .1, r .2, r .3, r .4, r .5, left-by buf x h);
   restarted = λ t m buf o left path tag offset arrival complete g x e h.
-      let r = told t path tag offset g m complete (length buf) e (x .outcome) h in (r .0, r .1, r .2, r .3, r .4, r .5, left-by buf x h);
+      let r = told t path tag offset complete g m (length buf) e (x .outcome) h in (r .0, r .1, r .2, r .3, r .4, r .5, r .6, left-by buf x h);
 }

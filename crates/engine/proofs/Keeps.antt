@@ -19,28 +19,28 @@ use Rattle.task.specs.declared.select.Place.the-variants.{Anywhere, On}
 use Rattle.task.proofs.Ways.{never, cond-ind, both}
 use Rattle.task.proofs.Places.{first-picks}
 use Rattle.task.proofs.Selecting.{meets, picks-every, picks-on, picks-aca-on, picks-aca-from-on}
-use Rattle.table.specs.Tables.{placeOf, pathOf, unitAt, taskAt, anyLive, pickOf, hasRoom, withPaths, endedBy, markedIn, resetAttentionIn}
-use Rattle.table.specs.Sound.{Shaped, ownedBy}
+use Rattle.table.specs.Tables.{placeOf, pathOf, unitAt, taskAt, hasAca, ownedBy, anyLive, pickOf, hasRoom, othersOn, withPaths, endedBy, markedIn, resetAttentionIn}
+use Rattle.table.specs.Sound.{Shaped}
 use Rattle.table.specs.Promises.{Good, MayCome}
 use Rattle.table.specs.declared.Aca.{Aca}
 use Rattle.table.specs.declared.Aca.the-variants.{Clear, Owned}
 use Rattle.table.specs.declared.Table.{Table}
 use Rattle.table.proofs.Views.{live-at, pick-at, any-is-found, none-left}
 use Rattle.table.proofs.Keeps.{accept-keeps, may-come as paths-may-come, end-keeps, start-keeps as start-task-keeps, restart-keeps, clear-keeps, mark-keeps, attention-gone-keeps, reset-attention-keeps, cleared-attention-keeps, finish-keeps as finish-task-keeps, reset-keeps as reset-table-keeps, setup-is-good as setup-table-is-good}
-use Rattle.rules.specs.Rules.{hasAca, factsOf, lookupOf, asksAca, keptOutByAca, acaKindWithoutAca, roomRules, fieldRules, unitRules, blockRules, commandRules, accepts, deciding}
-use Rattle.rules.specs.Management.{endsOf, tagOf, unitOf, isClearSet, orderCode}
-use Rattle.rules.specs.declared.rules.Facts.{Facts}
-use Rattle.rules.specs.declared.rules.SenderChange.{SenderChange}
-use Rattle.rules.specs.declared.rules.SenderChange.the-variants.{Stays, SetMark, ClearMark, ClearMarkAndAttention}
-use Rattle.rules.specs.declared.rules.Ruling.{Ruling}
-use Rattle.rules.specs.declared.rules.Ruling.the-variants.{Refuse, Respond, Report, Invalid, Accept}
+use Rattle.rules.specs.Facts.{factsOf, lookupOf}
+use Rattle.rules.specs.Rules.{asksAca, keptOutByAca, acaKindWithoutAca, roomRules, fieldRules, unitRules, blockRules, commandRules, accepts, deciding}
+use Rattle.rules.specs.Management.{endsOf, tagOf, unitOf, orderCode, orderChange}
+use Rattle.rules.specs.declared.facts.Facts.{Facts}
+use Rattle.rules.specs.declared.change.SenderChange.{SenderChange}
+use Rattle.rules.specs.declared.change.SenderChange.the-variants.{Stays, SetMark, ClearMark, ClearMarkAndAttention}
+use Rattle.rules.specs.declared.command.Ruling.{Ruling}
+use Rattle.rules.specs.declared.command.Ruling.the-variants.{Refuse, Respond, Report, Invalid, Accept}
 use Rattle.rules.specs.declared.manage.Order.{Order}
 use Rattle.rules.specs.declared.manage.Order.the-variants.{AbortTask, AbortTaskSet, ClearTaskSet, ClearAca, UnitReset, TargetReset}
 use Rattle.rules.proofs.Entries.{everyGives, appliesAt, passed}
 use Rattle.plan.specs.Plans.{kindOf, ruled, orderPlan, senderAfter}
 use Rattle.plan.specs.declared.Request.{Request}
 use Rattle.plan.specs.declared.Request.the-variants.{Command, Manage, Confirm}
-use Rattle.plan.specs.declared.Change.the-variants as change
 use Rattle.plan.specs.declared.Plan.{Plan}
 use Rattle.engine.specs.Calls.{withParts, planAt, withRecords, carriedOut, choiceOn, setupOf}
 use Rattle.engine.specs.Promises.{MessageKeeps, StartKeeps, FinishKeeps, ResetKeeps, SetupIsGood}
@@ -82,7 +82,7 @@ owner-alone f g = cases (f .aca) (f .owned) (asksAca g) (f .busy)
 -- the rules by their places in the list: 2 is rule 1's room, 3 is rule 2, 6 is rule 5, 7 is rule 6, 8 and 9 are rule 7, 12 is rule 9
 module _ (t : Table) (p tag lun : ℕ) (flags : Flags) (m : List ℕ) where
   abbrev pub facts : Facts
-  facts = factsOf t p tag lun false
+  facts = factsOf t p tag lun
 
   module _ (e : deciding facts flags m .gives ≡ Accept) where
     none-applied : (k : ℕ) → appliesAt (commandRules facts flags m) k ≡ false
@@ -148,35 +148,35 @@ module _ (t : Table) (g : Good t) where
 -- ---- the calls
 
 module _ (t : Table) (g : Good t) (p : ℕ) (l : p < t .count) where
-  mood-keeps : (sender : SenderChange) → Good (withPaths t (senderAfter (t .paths) p sender))
-  mood-keeps Stays = g
-  mood-keeps SetMark = mark-keeps t p true g l
-  mood-keeps ClearMark = mark-keeps t p false g l
-  mood-keeps ClearMarkAndAttention = attention-gone-keeps (withPaths t (markedIn (t .paths) p false)) p (mark-keeps t p false g l) l
+  sender-keeps : (sender : SenderChange) → Good (withPaths t (senderAfter (t .paths) p sender))
+  sender-keeps Stays = g
+  sender-keeps SetMark = mark-keeps t p true g l
+  sender-keeps ClearMark = mark-keeps t p false g l
+  sender-keeps ClearMarkAndAttention = attention-gone-keeps (withPaths t (markedIn (t .paths) p false)) p (mark-keeps t p false g l) l
 
   ruling-keeps : (next tag lun : ℕ) (flags : Flags) (r : Ruling) → (r ≡ Accept → MayCome t p tag lun (kindOf (flags .queue)))
       → Good (carriedOut t (ruled next p tag lun flags r))
   unfolding carriedOut withRecords
   ruling-keeps next tag lun flags (Refuse n) c = g
-  ruling-keeps next tag lun flags (Respond code sender) c = mood-keeps sender
-  ruling-keeps next tag lun flags (Report status sense sender) c = mood-keeps sender
-  ruling-keeps next tag lun flags (Invalid sender) c = mood-keeps sender
+  ruling-keeps next tag lun flags (Respond code sender) c = sender-keeps sender
+  ruling-keeps next tag lun flags (Report status sense sender) c = sender-keeps sender
+  ruling-keeps next tag lun flags (Invalid sender) c = sender-keeps sender
   ruling-keeps next tag lun flags Accept c =
-      let l = senderAfter (t .paths) p ClearMark in accept-keeps (withPaths t l) p tag lun _ (flags .confirm) (mood-keeps ClearMark) (paths-may-come l (c refl))
+      let l = senderAfter (t .paths) p ClearMark in accept-keeps (withPaths t l) p tag lun _ (flags .confirm) (sender-keeps ClearMark) (paths-may-come l (c refl))
 
   -- what an order asks of the table
   abbrev asked : Order → Facts
-  asked o = factsOf t p (tagOf o) (unitOf o) (isClearSet o)
+  asked o = factsOf t p (tagOf o) (unitOf o)
 
-  -- a reset alarms the paths
-  abbrev alarmed : Table
-  alarmed = withPaths t (resetAttentionIn (t .paths) (t .count) false)
+  -- a reset gives all paths reset attention
+  abbrev attentive : Table
+  attentive = withPaths t (resetAttentionIn (t .paths) (t .count) false)
 
-  alarmed-good : Good alarmed
-  alarmed-good = reset-attention-keeps t false g
+  attentive-good : Good attentive
+  attentive-good = reset-attention-keeps t false g
 
   -- an order that is carried out. To end tasks first and then take an ACA comes to the same table
-  done-keeps : (m : List ℕ) (o : Order) → orderCode (asked o) m o .0 ≡ 0 → Good (endedBy (withParts t (change.ByOrder (asked o .others) o)) (endsOf p o))
+  done-keeps : (m : List ℕ) (o : Order) → orderCode (asked o) m o .0 ≡ 0 → Good (endedBy (withParts t (orderChange (othersOn t (unitOf o) p) o)) (endsOf p o))
   unfolding endedBy factsOf
   done-keeps m (AbortTask tag2) e = end-keeps t _ g
   done-keeps m (AbortTaskSet lun) e = end-keeps t _ g
@@ -184,9 +184,9 @@ module _ (t : Table) (g : Good t) (p : ℕ) (l : p < t .count) where
   done-keeps m (ClearAca lun) e =
       clear-keeps (endedBy t (acaFromOn p lun)) (On lun) (end-keeps t _ g) (none-owned t g p lun (owner-clears (asked (ClearAca lun)) m lun e))
   done-keeps m (UnitReset lun) e =
-      clear-keeps (endedBy alarmed (onUnit lun)) (On lun) (end-keeps alarmed _ alarmed-good) (none-on alarmed alarmed-good lun)
+      clear-keeps (endedBy attentive (onUnit lun)) (On lun) (end-keeps attentive _ attentive-good) (none-on attentive attentive-good lun)
   done-keeps m TargetReset e =
-      clear-keeps (endedBy alarmed everyTask) Anywhere (end-keeps alarmed _ alarmed-good) (none-anywhere alarmed alarmed-good)
+      clear-keeps (endedBy attentive everyTask) Anywhere (end-keeps attentive _ attentive-good) (none-anywhere attentive attentive-good)
 
   plan-keeps : (m : List ℕ) (tag : ℕ) (w : Request) → Good (carriedOut t (planAt t m p tag w))
   unfolding carriedOut withRecords planAt lookupOf orderPlan
@@ -194,8 +194,8 @@ module _ (t : Table) (g : Good t) (p : ℕ) (l : p < t .count) where
   plan-keeps m tag (Manage o) =
       cond-ind (λ (pl : Plan). Good (carriedOut t pl)) (eqb (orderCode (asked o) m o .0) (Paper.done .0)) (λ e. done-keeps m o (eqb-true _ _ e)) (λ _. g)
   plan-keeps m tag (Confirm offset complete) =
-      each-confirm (λ (pl : Plan). Good (carriedOut t pl)) (pickOf t (named p tag)) p tag m offset complete g g (λ _. end-keeps t _ g)
-      (λ _ _. restart-keeps t _ offset g)
+      each-confirm (λ (pl : Plan). Good (carriedOut t pl)) (pickOf t (named p tag)) p tag m offset complete g g (λ _ _. end-keeps t _ g)
+      (λ _ _ _. restart-keeps t _ offset g)
 
 abbrev GoodAfter : Outcome → Type 0
 GoodAfter o = Good (o .table)

@@ -10,6 +10,7 @@ use Rattle.wire.specs.Messages.{readOf, reservedSet}
 use Rattle.wire.specs.declared.codes.Refusal.{Refusal}
 use Rattle.wire.specs.declared.codes.StatusByte.{StatusByte}
 use Rattle.wire.specs.declared.codes.Sense.{Sense}
+use Rattle.reply.specs.declared.Reply.the-variants as reply
 use Rattle.task.specs.Selections.{runningOn, runningAs, numberedAs}
 use Rattle.task.specs.declared.scan.Pick.{Pick}
 use Rattle.task.proofs.Ways.{cond-ind}
@@ -17,11 +18,11 @@ use Rattle.table.specs.Tables.{pathOf, pathAt, isAttached, pickOf, started, fin
 use Rattle.table.specs.Sound.{soundOf}
 use Rattle.table.specs.declared.Table.{Table}
 use Rattle.table.proofs.Views.{altered-none, finished-none}
+use Rattle.rules.specs.declared.change.Change.the-variants as change
 use Rattle.plan.specs.Plans.{askedOf, planned, refusing, isAwaited, confirmPlan}
 use Rattle.plan.specs.declared.Request.{Request}
 use Rattle.plan.specs.declared.Asked.{Asked}
 use Rattle.plan.specs.declared.Asked.the-variants.{By, Unread}
-use Rattle.plan.specs.declared.Change.the-variants as change
 use Rattle.plan.specs.declared.RecordChange.the-variants as records
 use Rattle.plan.specs.declared.Plan.{Plan}
 use Rattle.plan.specs.declared.Answer.{Answer}
@@ -73,7 +74,7 @@ module _ (P : Outcome → Type 0) (t : Table) (stops : (n : Refusal) → P (refu
   module _ (arrival : ℕ) (status : StatusByte) (s : Sense) (transferred n : ℕ) where
     abbrev pub Ended : Type 0
     Ended = P (out (finished t (pickOf t (runningAs arrival) .at) (failed status) transferred)
-        (answer.Status (runningTask t arrival .tag) status (sentSense status s)) (pathAt t (runningTask t arrival .path) .id))
+        (answer.Reply (reply.Status (runningTask t arrival .tag) status (sentSense status s))) (pathAt t (runningTask t arrival .path) .id))
 
     -- where the reply buffer has room, and the device's status and sense key may be sent
     pub each-sent : (Paper.replyRoom ≤ n → mayFinish status s ≡ true → pickOf t (runningAs arrival) .found ≡ true → Ended)
@@ -96,17 +97,17 @@ module _ (P : Outcome → Type 0) (t : Table) (stops : (n : Refusal) → P (refu
 
 -- a confirmation: FFh, or 15, or the task that waits to be confirmed ends, or it waits again at an offset within the bytes transferred
 module _ (P : Plan → Type 0) (own : Pick) (p tag : ℕ) (m : List ℕ) (offset : ℕ) (complete : Bool) where
-  pub each-confirm : P (planned (answer.Response tag Paper.invalidField) change.Nothing records.Nothing) → P (refusing Paper.nothingToConfirm)
-      → (isAwaited own ≡ true → P (planned (answer.Confirmed (own .task .arrival)) change.Nothing (records.End (numberedAs (own .task .arrival) p tag))))
-      → (isAwaited own ≡ true → offset ≤ own .task .transferred
+  pub each-confirm : P (planned (answer.Reply (reply.Response tag Paper.invalidField)) change.Nothing records.Nothing) → P (refusing Paper.nothingToConfirm)
+      → (isAwaited own ≡ true → complete ≡ true → P (planned (answer.Confirmed (own .task .arrival)) change.Nothing (records.End (numberedAs (own .task .arrival) p tag))))
+      → (isAwaited own ≡ true → complete ≡ false → offset ≤ own .task .transferred
       → P (planned (answer.Restarted (own .task .arrival)) change.Nothing (records.Restart (own .at) offset)))
       → P (confirmPlan own p tag m offset complete)
   unfolding confirmPlan
   each-confirm bad none ends again =
       cond-ind P (reservedSet m) (λ _. bad)
       (λ _. cond-ind P (not (isAwaited own)) (λ _. none)
-      (λ w. cond-ind P complete (λ _. ends (not-false _ w))
-      (λ _. cond-ind P (ltb (own .task .transferred) offset) (λ _. bad) (λ l. again (not-false _ w) (ltb-false _ offset l)))))
+      (λ w. cond-ind P complete (λ c. ends (not-false _ w) c)
+      (λ c. cond-ind P (ltb (own .task .transferred) offset) (λ _. bad) (λ l. again (not-false _ w) c (ltb-false _ offset l)))))
 
 -- the reply buffer as it is left, by the answer
 pub left-by : {defined o : Outcome} (buf : List ℕ) {left : List ℕ} {a : Answer} → Answers defined buf o left → o .answer ≡ a → left ≡ replied a buf

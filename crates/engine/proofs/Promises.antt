@@ -18,10 +18,11 @@ use Rattle.task.proofs.Next.{scan-is-next}
 use Rattle.table.specs.Tables.{zeroTable, pathOf, unitAt, pickOf}
 use Rattle.table.specs.Setup.{badList, setupTable}
 use Rattle.table.specs.declared.Table.{Table}
-use Rattle.rules.specs.Rules.{lookupOf, deciding}
-use Rattle.rules.specs.declared.rules.Lookup.{Lookup}
-use Rattle.rules.specs.declared.rules.Ruling.{Ruling}
-use Rattle.rules.specs.declared.rules.Ruling.the-variants.{Refuse, Respond, Report, Invalid, Accept}
+use Rattle.rules.specs.Facts.{lookupOf}
+use Rattle.rules.specs.Rules.{deciding}
+use Rattle.rules.specs.declared.facts.Lookup.{Lookup}
+use Rattle.rules.specs.declared.command.Ruling.{Ruling}
+use Rattle.rules.specs.declared.command.Ruling.the-variants.{Refuse, Respond, Report, Invalid, Accept}
 use Rattle.plan.specs.Plans.{ruled, planOf}
 use Rattle.plan.specs.declared.Request.{Request}
 use Rattle.plan.specs.declared.Request.the-variants.{Command, Manage, Confirm}
@@ -41,14 +42,12 @@ use Rattle.engine.proofs.Keeps.{accept-is-whole}
 abbrev sortOf : Answer → ℕ
 sortOf answer.Ready = 0
 sortOf (answer.Accepted n) = 1
-sortOf (answer.Response tag code) = 2
-sortOf (answer.Status tag status sense) = 3
-sortOf (answer.Invalid tag) = 4
-sortOf (answer.Started offset arrival) = 5
-sortOf (answer.Confirmed n) = 6
-sortOf (answer.Restarted n) = 7
-sortOf answer.Reset = 8
-sortOf (answer.Refused n) = 9
+sortOf (answer.Reply r) = 2
+sortOf (answer.Started offset arrival) = 3
+sortOf (answer.Confirmed n) = 4
+sortOf (answer.Restarted n) = 5
+sortOf answer.Reset = 6
+sortOf (answer.Refused n) = 7
 
 unlike : {A : Type 0} {a b : Answer} → eqb (sortOf a) (sortOf b) ≡ false → a ≡ b → A
 unlike {a = a} {b = b} h e = absurd (eqb-false (sortOf a) (sortOf b) h (ap sortOf e))
@@ -57,7 +56,7 @@ unlike {a = a} {b = b} h e = absurd (eqb-false (sortOf a) (sortOf b) h (ap sortO
 abbrev Stays : Table → Answer → Table → Type 0
 Stays t a u = (n : Refusal) → a ≡ answer.Refused n → u ≡ t
 
-no-refusal : {t u : Table} {a : Answer} → eqb (sortOf a) 9 ≡ false → Stays t a u
+no-refusal : {t u : Table} {a : Answer} → eqb (sortOf a) 7 ≡ false → Stays t a u
 no-refusal h n = unlike h
 
 abbrev Kept : Table → Outcome → Type 0
@@ -77,9 +76,9 @@ ruling-kept t next p tag lun flags Accept = no-refusal refl
 plan-kept : (t : Table) (s : Lookup) (next p tag : ℕ) (m : List ℕ) (w : Request) → PlanKept t (planOf s next p tag m w)
 unfolding carriedOut withRecords
 plan-kept t s next p tag m (Command lun flags) = ruling-kept t next p tag lun flags (deciding (s .facts) flags m .gives)
-plan-kept t s next p tag m (Manage o) = no-refusal (ap (λ (a : Answer). eqb (sortOf a) 9) (order-answer (s .facts) p tag m o))
+plan-kept t s next p tag m (Manage o) = no-refusal (ap (λ (a : Answer). eqb (sortOf a) 7) (order-answer (s .facts) (s .others) p tag m o))
 plan-kept t s next p tag m (Confirm offset complete) =
-    each-confirm (PlanKept t) (s .own) p tag m offset complete (no-refusal refl) (λ _ _. refl) (λ _. no-refusal refl) (λ _ _. no-refusal refl)
+    each-confirm (PlanKept t) (s .own) p tag m offset complete (no-refusal refl) (λ _ _. refl) (λ _ _. no-refusal refl) (λ _ _ _. no-refusal refl)
 
 -- an outcome that meets a contract, where the outcome that it defines is kept
 as-defined : {t : Table} {defined o : Outcome} → Kept t defined → o ≡ defined → Kept t o
@@ -132,10 +131,10 @@ message-whole t m n arrival =
   where
     asked : (p tag : ℕ) (w : Request) → planAt t m p tag w .answer ≡ answer.Accepted arrival → Whole m
     asked p tag (Command lun flags) e = accept-is-whole t p tag lun flags m (accepts-only (t .next) p tag lun arrival flags _ e)
-    asked p tag (Manage o) e = unlike refl (sym (order-answer _ p tag m o) ∙ e)
+    asked p tag (Manage o) e = unlike refl (sym (order-answer _ _ p tag m o) ∙ e)
     asked p tag (Confirm offset complete) e =
         each-confirm (λ (pl : Plan). pl .answer ≡ answer.Accepted arrival → Whole m) (pickOf t (named p tag)) p tag m offset complete (unlike refl) (unlike refl)
-        (λ _. unlike refl) (λ _ _. unlike refl) e
+        (λ _ _. unlike refl) (λ _ _ _. unlike refl) e
 
 long-enough : (m : List ℕ) → cutShort m ≡ false → 16 + blockLength m ≤ length m
 unfolding cutShort

@@ -24,21 +24,21 @@ use Rattle.task.proofs.Ways.{never, cond-ind, both}
 use Rattle.table.specs.declared.Table.{Table}
 use Rattle.rules.specs.Rules.{roomRules, fieldRules, unitRules, blockRules, accepts, commandRules, deciding}
 use Rattle.rules.specs.Management.{hasUnit, carriedCode, orderCode}
-use Rattle.rules.specs.declared.rules.Facts.{Facts}
-use Rattle.rules.specs.declared.rules.Lookup.{Lookup}
-use Rattle.rules.specs.declared.rules.Ruling.{Ruling}
+use Rattle.rules.specs.declared.facts.Facts.{Facts}
+use Rattle.rules.specs.declared.facts.Lookup.{Lookup}
+use Rattle.rules.specs.declared.command.Ruling.{Ruling}
 use Rattle.rules.specs.declared.manage.Order.{Order}
 use Rattle.rules.specs.declared.manage.Order.the-variants as order
 use Rattle.rules.proofs.Entries.{everyGives, given-meets}
-use Rattle.plan.specs.Plans.{ruled, planOf}
+use Rattle.plan.specs.Plans.{replyOf, ruled, planOf}
 use Rattle.plan.specs.declared.Request.{Request}
 use Rattle.plan.specs.declared.Request.the-variants.{Command, Manage, Confirm}
 use Rattle.plan.specs.declared.Plan.{Plan}
 use Rattle.plan.specs.declared.Answer.{Answer}
 use Rattle.plan.specs.declared.Answer.the-variants as answer
 use Rattle.plan.proofs.Promises.{order-answer}
-use Rattle.engine.specs.Calls.{refused, planAt, mayFinish, sentSense, replied, Answers}
-use Rattle.engine.specs.Promises.{replyOf, ReplyWritten, RepliesAreWritten}
+use Rattle.engine.specs.Calls.{refused, planAt, mayFinish, sentSense, leftWith, replied, Answers}
+use Rattle.engine.specs.Promises.{ReplyWritten, RepliesAreWritten}
 use Rattle.engine.specs.declared.Outcome.{Outcome}
 use Rattle.engine.proofs.Outcomes.{each-heard, each-sent, each-confirm}
 
@@ -80,12 +80,12 @@ module _ (tag : ℕ) where
 plan-fits : (s : Lookup) (next p tag : ℕ) (m : List ℕ) (w : Request) → Fits (planOf s next p tag m w .answer)
 unfolding writableOf
 plan-fits s next p tag m (Command lun flags) = ruling-fits (s .facts) next p tag m lun flags
-plan-fits s next p tag m (Manage o) = ap (λ (a : Answer). fits (replyOf a)) (order-answer (s .facts) p tag m o) ∙ code-fits tag (s .facts) m o
+plan-fits s next p tag m (Manage o) = ap (λ (a : Answer). fits (replyOf a)) (order-answer (s .facts) (s .others) p tag m o) ∙ code-fits tag (s .facts) m o
 plan-fits s next p tag m (Confirm offset complete) =
-    each-confirm (λ (pl : Plan). Fits (pl .answer)) (s .own) p tag m offset complete refl refl (λ _. refl) (λ _ _. refl)
+    each-confirm (λ (pl : Plan). Fits (pl .answer)) (s .own) p tag m offset complete refl refl (λ _ _. refl) (λ _ _ _. refl)
 
 -- a finish: the four statuses that a device may send, and its sense key
-sent-fits : (tag : ℕ) (status : StatusByte) (s : Sense) → mayFinish status s ≡ true → Fits (answer.Status tag status (sentSense status s))
+sent-fits : (tag : ℕ) (status : StatusByte) (s : Sense) → mayFinish status s ≡ true → Fits (answer.Reply (reply.Status tag status (sentSense status s)))
 unfolding writableOf
 sent-fits tag status s =
     let is : StatusByte → Bool = λ x. eqb (status .0) (x .0) in
@@ -101,29 +101,11 @@ sent-fits tag status s =
 
 -- ---- what fits is written
 
--- the buffer, by the reply
-abbrev leftBy : List ℕ → Option Reply → List ℕ
-leftBy buf none = buf
-leftBy buf (some r) = leftOf r buf
-
-replied-by : (a : Answer) (buf : List ℕ) → replied a buf ≡ leftBy buf (replyOf a)
-unfolding replied
-replied-by answer.Ready buf = refl
-replied-by (answer.Accepted n) buf = refl
-replied-by (answer.Response tag code) buf = refl
-replied-by (answer.Status tag status sense) buf = refl
-replied-by (answer.Invalid tag) buf = refl
-replied-by (answer.Started offset arrival) buf = refl
-replied-by (answer.Confirmed n) buf = refl
-replied-by (answer.Restarted n) buf = refl
-replied-by answer.Reset buf = refl
-replied-by (answer.Refused n) buf = refl
-
 written : (a : Answer) (buf : List ℕ) (r : Reply) → Paper.replyRoom ≤ length buf → Fits a → replyOf a ≡ some r → ReplyWritten r buf (replied a buf)
-unfolding leftOf
+unfolding leftOf replied
 written a buf r l f e =
     let w : writableOf r ≡ true = sym (ap fits e) ∙ f in
-    record { writable = w; no-longer = no-reply-is-longer r; in-front = replied-by a buf ∙ ap (leftBy buf) e ∙ rw (le-ltb (length buf) 64 l, w) }
+    record { writable = w; no-longer = no-reply-is-longer r; in-front = ap (leftWith buf) e ∙ rw (le-ltb (length buf) 64 l, w) }
 
 -- what a call's outcome has to be for that
 abbrev Sends : List ℕ → Outcome → Type 0

@@ -1,8 +1,10 @@
 -- What each call answers, what table it hands back, and what it leaves in the reply buffer: the refusals in their order, then the rest.
 use Prim.Native.Nat.{ℕ}
 use mathlib.Core.Path.{_≡_}
-use mathlib.Core.Bool.{Bool, cond, not, _&&_, _||_}
+use mathlib.Core.Bool.{Bool, true, false, cond, not, _&&_, _||_}
 use mathlib.Core.List.{List, []}
+use mathlib.Core.Option.{Option, none, some}
+use lib.ListN.{length}
 use lib.Dec.{eqb, ltb, leb}
 use Rattle.wire.specs.Paper
 use Rattle.wire.specs.Messages.{readOf}
@@ -11,23 +13,24 @@ use Rattle.wire.specs.declared.codes.Refusal.{Refusal}
 use Rattle.wire.specs.declared.codes.StatusByte.{StatusByte}
 use Rattle.wire.specs.declared.codes.Sense.{Sense}
 use Rattle.reply.specs.Calls.{leftOf}
+use Rattle.reply.specs.declared.Reply.{Reply}
 use Rattle.reply.specs.declared.Reply.the-variants as reply
 use Rattle.task.specs.Selections.{runningOn, waitingOn, acaWaitingOn, runningAs}
 use Rattle.task.specs.declared.Task.{Task}
 use Rattle.task.specs.declared.scan.Pick.{Pick}
 use Rattle.task.specs.declared.select.Selection.{Selection}
-use Rattle.table.specs.Tables.{pathOf, pathAt, unitAt, isAttached, pickOf, accepted, endedBy, started, restarted, finished, resetOf}
+use Rattle.table.specs.Tables.{pathOf, pathAt, unitAt, isAttached, hasAca, pickOf, othersOn, accepted, endedBy, started, restarted, finished, resetOf}
 use Rattle.table.specs.Setup.{badList, setupTable}
 use Rattle.table.specs.Sound.{soundOf}
 use Rattle.table.specs.declared.Table.{Table}
 use Rattle.table.specs.declared.Aca.{Aca}
-use Rattle.rules.specs.Rules.{hasAca, lookupOf}
-use Rattle.rules.specs.declared.rules.Lookup.{Lookup}
-use Rattle.plan.specs.Plans.{askedOf, tagAsked, unitAsked, clearsSet, refusing, planOf, pathsAfter, unitsAfter}
+use Rattle.rules.specs.Facts.{lookupOf}
+use Rattle.rules.specs.declared.facts.Lookup.{Lookup}
+use Rattle.rules.specs.declared.change.Change.{Change}
+use Rattle.plan.specs.Plans.{askedOf, tagAsked, unitAsked, replyOf, refusing, planOf, pathsAfter, unitsAfter}
 use Rattle.plan.specs.declared.Request.{Request}
 use Rattle.plan.specs.declared.Asked.{Asked}
 use Rattle.plan.specs.declared.Asked.the-variants.{By, Unread}
-use Rattle.plan.specs.declared.Change.{Change}
 use Rattle.plan.specs.declared.RecordChange.{RecordChange}
 use Rattle.plan.specs.declared.RecordChange.the-variants as records
 use Rattle.plan.specs.declared.Plan.{Plan}
@@ -56,9 +59,9 @@ abbrev pub senderOf : Asked → ℕ
 senderOf (Unread n) = 0
 senderOf (By path tag w) = path
 
--- what is to be seen of the table for what the path at p asks, and the plan for it
+-- what is looked up in the table for what the path at p asks, and the plan for it
 abbrev pub lookupFor : Table → ℕ → ℕ → Request → Lookup
-lookupFor t p tag w = lookupOf t p (tagAsked tag w) (unitAsked w) (clearsSet w)
+lookupFor t p tag w = lookupOf t p (tagAsked tag w) (unitAsked w) (othersOn t (unitAsked w) p)
 
 unfoldable pub planAt : Table → List ℕ → ℕ → ℕ → Request → Plan
 planAt t m p tag w = planOf (lookupFor t p tag w) (t .next) p tag m w
@@ -89,17 +92,12 @@ unfoldable pub carriedOut : Table → Plan → Table
 carriedOut t pl = withRecords (withParts t (pl .change)) (pl .records)
 
 -- the path that a reply goes to, and 0 where the answer is none
+abbrev pub pathFor : ℕ → Option Reply → ℕ
+pathFor path none = 0
+pathFor path (some r) = path
+
 abbrev pub replyPath : Answer → ℕ → ℕ
-replyPath answer.Ready path = 0
-replyPath (answer.Accepted n) path = 0
-replyPath (answer.Response tag code) path = path
-replyPath (answer.Status tag status sense) path = path
-replyPath (answer.Invalid tag) path = path
-replyPath (answer.Started offset arrival) path = 0
-replyPath (answer.Confirmed n) path = 0
-replyPath (answer.Restarted n) path = 0
-replyPath answer.Reset path = 0
-replyPath (answer.Refused n) path = 0
+replyPath a path = pathFor path (replyOf a)
 
 abbrev pub carried : Table → ℕ → Plan → Outcome
 carried t path pl = out (carriedOut t pl) (pl .answer) (replyPath (pl .answer) path)
@@ -170,7 +168,7 @@ finishVerdict t arrival status s n =
     (cond (ltb n Paper.replyRoom) (rejected Paper.smallBuffer)
     (cond (not (mayFinish status s)) (rejected Paper.badStatus)
     (cond (not (pickOf t (runningAs arrival) .found)) (rejected Paper.notRunning)
-    (verdict (answer.Status (runningTask t arrival .tag) status (sentSense status s)) (pickOf t (runningAs arrival) .at) (pathAt t (runningTask t arrival .path) .id)))))
+    (verdict (answer.Reply (reply.Status (runningTask t arrival .tag) status (sentSense status s))) (pickOf t (runningAs arrival) .at) (pathAt t (runningTask t arrival .path) .id)))))
 
 -- the task ends, or with CONFIRM waits to be confirmed, with the bytes transferred
 unfoldable pub finishOf : Table → ℕ → StatusByte → Sense → ℕ → ℕ → Outcome
@@ -187,18 +185,13 @@ setupOf ids attached first = out (setupTable ids attached first) (cond (badList 
 
 -- ---- the reply buffer
 
--- the reply that an answer asks for at the front of the buffer; with no reply the buffer stays
+-- the reply that an answer is at the front of the buffer; with no reply the buffer stays
+abbrev pub leftWith : List ℕ → Option Reply → List ℕ
+leftWith buf none = buf
+leftWith buf (some r) = leftOf r buf
+
 unfoldable pub replied : Answer → List ℕ → List ℕ
-replied answer.Ready buf = buf
-replied (answer.Accepted n) buf = buf
-replied (answer.Response tag code) buf = leftOf (reply.Response tag code) buf
-replied (answer.Status tag status sense) buf = leftOf (reply.Status tag status sense) buf
-replied (answer.Invalid tag) buf = leftOf (reply.Invalid tag) buf
-replied (answer.Started offset arrival) buf = buf
-replied (answer.Confirmed n) buf = buf
-replied (answer.Restarted n) buf = buf
-replied answer.Reset buf = buf
-replied (answer.Refused n) buf = buf
+replied a buf = leftWith buf (replyOf a)
 
 -- the contract of a call with a reply buffer: the outcome o is the one defined, and the buffer is left as its answer asks
 pub record Answers (defined : Outcome) (buf : List ℕ) (o : Outcome) (left : List ℕ) : Type 0 where
@@ -207,14 +200,36 @@ pub record Answers (defined : Outcome) (buf : List ℕ) (o : Outcome) (left : Li
 
 -- ---- the command block handed over: the part of the message with an accepted command, an empty part with any other answer
 
+abbrev pub isAccepted : Answer → Bool
+isAccepted answer.Ready = false
+isAccepted (answer.Accepted n) = true
+isAccepted (answer.Reply r) = false
+isAccepted (answer.Started offset arrival) = false
+isAccepted (answer.Confirmed n) = false
+isAccepted (answer.Restarted n) = false
+isAccepted answer.Reset = false
+isAccepted (answer.Refused n) = false
+
 unfoldable pub handedOver : List ℕ → Answer → List ℕ
-handedOver m answer.Ready = []
-handedOver m (answer.Accepted n) = blockOf m
-handedOver m (answer.Response tag code) = []
-handedOver m (answer.Status tag status sense) = []
-handedOver m (answer.Invalid tag) = []
-handedOver m (answer.Started offset arrival) = []
-handedOver m (answer.Confirmed n) = []
-handedOver m (answer.Restarted n) = []
-handedOver m answer.Reset = []
-handedOver m (answer.Refused n) = []
+handedOver m a = cond (isAccepted a) (blockOf m) []
+
+-- ---- the contracts of the calls: o is what a call hands back, left the reply buffer as it is left
+
+abbrev pub SetupContract : List ℕ → ℕ → ℕ → Outcome → Type 0
+SetupContract ids attached first o = o ≡ setupOf ids attached first
+
+abbrev pub MessageContract : Table → List ℕ → List ℕ → Outcome → List ℕ → Type 0
+MessageContract t m buf o left = Answers (messageOf t m (length buf)) buf o left
+
+abbrev pub StartContract : Table → ℕ → Outcome → Type 0
+StartContract t unit o = o ≡ startOf t unit
+
+abbrev pub FinishContract : Table → ℕ → StatusByte → Sense → ℕ → List ℕ → Outcome → List ℕ → Type 0
+FinishContract t arrival status s transferred buf o left = Answers (finishOf t arrival status s transferred (length buf)) buf o left
+
+abbrev pub TotalResetContract : Table → Outcome → Type 0
+TotalResetContract t o = o ≡ totalResetOf t
+
+-- the part that is handed over with an answer
+abbrev pub CommandBlockContract : List ℕ → Answer → List ℕ → Type 0
+CommandBlockContract m a part = part ≡ handedOver m a

@@ -2,12 +2,11 @@
 use Prim.Native.Nat.{ℕ}
 use mathlib.Core.Path.{_≡_}
 use mathlib.Core.List.{List}
-use lib.ListN.{length}
 use Rattle.wire.specs.declared.codes.Refusal.{Refusal}
 use Rattle.table.specs.declared.Table.{Table}
 use Rattle.plan.specs.declared.Answer.{Answer}
 use Rattle.plan.specs.declared.Answer.the-variants as answer
-use Rattle.engine.specs.Calls.{messageOf, Answers}
+use Rattle.engine.specs.Calls.{MessageContract}
 use Rattle.engine.specs.Examples.{quiet, full, plain, resumed, buffer}
 use Rattle.engine.specs.declared.Outcome.{Outcome}
 
@@ -18,7 +17,7 @@ pub record Drive : Type 0 where
 
 -- it meets demand 2 at a table and a message, with the buffer of the examples
 abbrev pub MeetsAt : Drive → Table → List ℕ → Type 0
-MeetsAt d t m = Answers (messageOf t m (length buffer)) buffer (d .outcome t m buffer) (d .left t m buffer)
+MeetsAt d t m = MessageContract t m buffer (d .outcome t m buffer) (d .left t m buffer)
 
 -- it refuses every message
 abbrev pub RefusesAll : Drive → Type 0

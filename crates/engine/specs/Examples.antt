@@ -16,7 +16,8 @@ use Rattle.table.specs.declared.Path as path
 use Rattle.table.specs.declared.Aca.the-variants.{Owned}
 use Rattle.table.specs.declared.Attention.the-variants as attention
 use Rattle.plan.specs.declared.Answer.{Answer}
-use Rattle.plan.specs.declared.Answer.the-variants.{Accepted, Response, Status, Invalid, Started, Confirmed, Restarted, Refused}
+use Rattle.reply.specs.declared.Reply.the-variants.{Response, Status, Invalid}
+use Rattle.plan.specs.declared.Answer.the-variants.{Accepted, Reply, Started, Confirmed, Restarted, Refused}
 use Rattle.engine.specs.Calls.{messageOf, startOf, finishOf, setupOf, replied}
 use Rattle.engine.specs.declared.Outcome.{Outcome}
 
@@ -82,14 +83,14 @@ accept t m arrival = silent t m (Accepted arrival)
 
 -- RESPONSE to tag 0005h
 abbrev pub response : Table → List ℕ → ℕ → Example
-response t m code = record { table = t; message = m; answer = Response 5 (Paper.returnCode code); reply = 0x83 ∷ 0x03 ∷ 0x00 ∷ 0x05 ∷ code ∷ [] }
+response t m code = record { table = t; message = m; answer = Reply (Response 5 (Paper.returnCode code)); reply = 0x83 ∷ 0x03 ∷ 0x00 ∷ 0x05 ∷ code ∷ [] }
 
 -- STATUS to tag 0005h: without sense, and 02h with sense key and code
 abbrev pub status : Table → List ℕ → ℕ → Example
 status t m byte = record {
   table = t;
   message = m;
-  answer = Status 5 (Paper.statusByte byte) Paper.noSense;
+  answer = Reply (Status 5 (Paper.statusByte byte) Paper.noSense);
   reply = 0x83 ∷ 0x11 ∷ 0x00 ∷ 0x05 ∷ byte ∷ replicate 21 0;
 }
 
@@ -97,13 +98,13 @@ abbrev pub check : Table → List ℕ → ℕ → ℕ → Example
 check t m key code = record {
   table = t;
   message = m;
-  answer = Status 5 (Paper.statusByte 0x02) (Paper.sense key code 0x00);
+  answer = Reply (Status 5 (Paper.statusByte 0x02) (Paper.sense key code 0x00));
   reply = 0x83 ∷ 0x11 ∷ 0x00 ∷ 0x05 ∷ 0x02 ∷ 0 ∷ 0 ∷ 0 ∷ 0x70 ∷ 0 ∷ key ∷ 0 ∷ 0 ∷ 0 ∷ 0 ∷ 0x0a ∷ 0 ∷ 0 ∷ 0 ∷ 0 ∷ code ∷ 0 ∷ 0 ∷ 0 ∷ 0 ∷ 0 ∷ [];
 }
 
 -- STATUS 00h with RETURN CODE FFh to tag 0005h
 abbrev pub invalid : Table → List ℕ → Example
-invalid t m = record { table = t; message = m; answer = Invalid 5; reply = 0x83 ∷ 0x11 ∷ 0x00 ∷ 0x05 ∷ 0x00 ∷ 0x00 ∷ 0xff ∷ replicate 19 0 }
+invalid t m = record { table = t; message = m; answer = Reply (Invalid 5); reply = 0x83 ∷ 0x11 ∷ 0x00 ∷ 0x05 ∷ 0x00 ∷ 0x00 ∷ 0xff ∷ replicate 19 0 }
 
 -- the full table, after its command was answered
 abbrev pub again : Table
@@ -167,7 +168,7 @@ worked5 = finishOf (worked4 .table) 1 (Paper.statusByte 0x00) Paper.noSense 0 64
 abbrev pub WorkedCalls : Type 0
 WorkedCalls =
     map (λ (o : Outcome). o .answer) (worked1 ∷ worked2 ∷ worked3 ∷ worked4 ∷ worked5 ∷ [])
-    ≡ Status 5 (Paper.statusByte 0x02) (Paper.sense 0x06 0x29 0x00) ∷ Accepted 1 ∷ Started 0 1 ∷ Status 6 (Paper.statusByte 0x00) Paper.noSense ∷ Refused (Paper.refusal 9) ∷ []
+    ≡ Reply (Status 5 (Paper.statusByte 0x02) (Paper.sense 0x06 0x29 0x00)) ∷ Accepted 1 ∷ Started 0 1 ∷ Reply (Status 6 (Paper.statusByte 0x00) Paper.noSense) ∷ Refused (Paper.refusal 9) ∷ []
 
 -- ---- confirmed status
 

@@ -3,7 +3,7 @@ use Prim.Native.Nat.{ℕ, _<_, _≤_, _^_}
 use mathlib.Core.Path.{_≡_}
 use mathlib.Core.Bool.{Bool, true, false}
 use mathlib.Core.List.{List}
-use mathlib.Core.Option.{Option, none, some}
+use mathlib.Core.Option.{none, some}
 use lib.ListN.{length}
 use Rattle.wire.specs.Paper.{replyRoom}
 use Rattle.wire.specs.Messages.{readOf}
@@ -15,7 +15,6 @@ use Rattle.wire.specs.declared.message.Message.the-variants.{AbortTask}
 use Rattle.reply.specs.Replies.{writableOf, bytesOf}
 use Rattle.reply.specs.Calls.{placed}
 use Rattle.reply.specs.declared.Reply.{Reply}
-use Rattle.reply.specs.declared.Reply.the-variants as reply
 use Rattle.task.specs.Tasks.{isUnconfirmed, restarts}
 use Rattle.task.specs.Next.{Next}
 use Rattle.task.specs.declared.Task.{Task}
@@ -25,47 +24,34 @@ use Rattle.table.specs.Setup.{badList}
 use Rattle.table.specs.View.{at}
 use Rattle.table.specs.Promises.{Good}
 use Rattle.table.specs.declared.Table.{Table}
-use Rattle.plan.specs.Plans.{askedOf}
+use Rattle.plan.specs.Plans.{askedOf, replyOf}
 use Rattle.plan.specs.declared.Request.the-variants.{Confirm}
 use Rattle.plan.specs.declared.Asked.the-variants.{By}
-use Rattle.plan.specs.declared.Answer.{Answer}
 use Rattle.plan.specs.declared.Answer.the-variants as answer
-use Rattle.engine.specs.Calls.{messageOf, startOf, finishOf, totalResetOf, setupOf, mayGo, replied, Answers, handedOver}
+use Rattle.engine.specs.Calls.{messageOf, startOf, finishOf, totalResetOf, setupOf, mayGo, replied, handedOver}
+use Rattle.engine.specs.Calls.{SetupContract, MessageContract, StartContract, FinishContract, TotalResetContract}
 use Rattle.engine.specs.declared.Outcome.{Outcome}
 
 -- ---- a numbered refusal changes neither the table nor the reply buffer; a refused setup hands back the all-zero table
 
 abbrev pub MessageRefusals : Type 0
 MessageRefusals = (t : Table) (m buf : List ℕ) (o : Outcome) (left : List ℕ) (n : Refusal)
-    → Answers (messageOf t m (length buf)) buf o left → o .answer ≡ answer.Refused n → (o .table ≡ t) × (left ≡ buf)
+    → MessageContract t m buf o left → o .answer ≡ answer.Refused n → (o .table ≡ t) × (left ≡ buf)
 
 abbrev pub FinishRefusals : Type 0
 FinishRefusals = (t : Table) (arrival : ℕ) (status : StatusByte) (s : Sense) (transferred : ℕ) (buf : List ℕ) (o : Outcome) (left : List ℕ) (n : Refusal)
-    → Answers (finishOf t arrival status s transferred (length buf)) buf o left → o .answer ≡ answer.Refused n → (o .table ≡ t) × (left ≡ buf)
+    → FinishContract t arrival status s transferred buf o left → o .answer ≡ answer.Refused n → (o .table ≡ t) × (left ≡ buf)
 
 abbrev pub StartRefusals : Type 0
-StartRefusals = (t : Table) (unit : ℕ) (o : Outcome) (n : Refusal) → o ≡ startOf t unit → o .answer ≡ answer.Refused n → o .table ≡ t
+StartRefusals = (t : Table) (unit : ℕ) (o : Outcome) (n : Refusal) → StartContract t unit o → o .answer ≡ answer.Refused n → o .table ≡ t
 
 abbrev pub ResetRefusals : Type 0
-ResetRefusals = (t : Table) (o : Outcome) (n : Refusal) → o ≡ totalResetOf t → o .answer ≡ answer.Refused n → o .table ≡ t
+ResetRefusals = (t : Table) (o : Outcome) (n : Refusal) → TotalResetContract t o → o .answer ≡ answer.Refused n → o .table ≡ t
 
 abbrev pub SetupRefusals : Type 0
-SetupRefusals = (ids : List ℕ) (attached first : ℕ) (o : Outcome) (n : Refusal) → o ≡ setupOf ids attached first → o .answer ≡ answer.Refused n → o .table ≡ zeroTable
+SetupRefusals = (ids : List ℕ) (attached first : ℕ) (o : Outcome) (n : Refusal) → SetupContract ids attached first o → o .answer ≡ answer.Refused n → o .table ≡ zeroTable
 
 -- ---- where the answer is a reply, that reply is written
-
--- the reply that an answer is
-abbrev pub replyOf : Answer → Option Reply
-replyOf answer.Ready = none
-replyOf (answer.Accepted n) = none
-replyOf (answer.Response tag code) = some (reply.Response tag code)
-replyOf (answer.Status tag status sense) = some (reply.Status tag status sense)
-replyOf (answer.Invalid tag) = some (reply.Invalid tag)
-replyOf (answer.Started offset arrival) = none
-replyOf (answer.Confirmed n) = none
-replyOf (answer.Restarted n) = none
-replyOf answer.Reset = none
-replyOf (answer.Refused n) = none
 
 -- r is one that the engine can write, no longer than 64 bytes; its bytes stand at the front of the buffer, and those after it keep their values
 pub record ReplyWritten (r : Reply) (buf left : List ℕ) : Type 0 where
@@ -77,16 +63,16 @@ pub record ReplyWritten (r : Reply) (buf left : List ℕ) : Type 0 where
 -- RETURN CODE FFh with 00h alone, and no reply is left unwritten
 pub record RepliesAreWritten : Type 0 where
   pub message : (t : Table) (m buf : List ℕ) (o : Outcome) (left : List ℕ) (r : Reply)
-      → Answers (messageOf t m (length buf)) buf o left → replyOf (o .answer) ≡ some r → ReplyWritten r buf left
+      → MessageContract t m buf o left → replyOf (o .answer) ≡ some r → ReplyWritten r buf left
   pub finish : (t : Table) (arrival : ℕ) (status : StatusByte) (s : Sense) (transferred : ℕ) (buf : List ℕ) (o : Outcome) (left : List ℕ) (r : Reply)
-      → Answers (finishOf t arrival status s transferred (length buf)) buf o left → replyOf (o .answer) ≡ some r → ReplyWritten r buf left
+      → FinishContract t arrival status s transferred buf o left → replyOf (o .answer) ≡ some r → ReplyWritten r buf left
 
 -- ---- what an accepted command and a start come to
 
 -- the block of an accepted command is whole and has a length, and so many bytes are handed over
 abbrev pub AcceptedIsWhole : Type 0
 AcceptedIsWhole = (t : Table) (m buf : List ℕ) (o : Outcome) (left : List ℕ) (arrival : ℕ)
-    → Answers (messageOf t m (length buf)) buf o left → o .answer ≡ answer.Accepted arrival
+    → MessageContract t m buf o left → o .answer ≡ answer.Accepted arrival
     → (cutShort m ≡ false) × (noBlock m ≡ false) × (length (handedOver m (o .answer)) ≡ blockLength m)
 
 -- the record of one of the tasks that may go, and of these the one that goes next: it runs in the table after, and its arrival number and offset are the answer
@@ -99,7 +85,7 @@ pub record Goes (t : Table) (unit offset arrival : ℕ) (after : Table) : Type 0
   pub runs : after ≡ started t (pick .at)
 
 abbrev pub StartsNext : Type 0
-StartsNext = (t : Table) (unit offset arrival : ℕ) (o : Outcome) → o ≡ startOf t unit → o .answer ≡ answer.Started offset arrival → Goes t unit offset arrival (o .table)
+StartsNext = (t : Table) (unit offset arrival : ℕ) (o : Outcome) → StartContract t unit o → o .answer ≡ answer.Started offset arrival → Goes t unit offset arrival (o .table)
 
 -- ---- what becomes of a task that waits to be confirmed
 
@@ -112,17 +98,25 @@ pub record Awaited (t : Table) (path tag arrival place : ℕ) (a : Task) : Type 
   pub number : a .arrival ≡ arrival
   pub waits : isUnconfirmed (a .phase) ≡ true
 
--- `confirmed` and `restarted` name the sender's own task that waits to be confirmed. `confirmed` ends it; `restarted` has it wait again under its number,
--- at an offset within the bytes transferred; every other record stays. No reply is sent
+-- every record but the one at i, and all else of the table, is in u as in t
+pub record OnlyRecord (i : ℕ) (t u : Table) : Type 0 where
+  pub records : (j : ℕ) → j < 64 → (j ≡ i → ⊥) → at u j ≡ at t j
+  pub next : u .next ≡ t .next
+  pub count : u .count ≡ t .count
+  pub attached : u .attached ≡ t .attached
+  pub paths : u .paths ≡ t .paths
+  pub units : u .units ≡ t .units
+
+-- `confirmed` and `restarted` name the sender's own task that waits to be confirmed. `confirmed` is the answer where COMPLETE is set, and ends it; `restarted`
+-- where COMPLETE is clear, and has it wait again under its number, at an offset within the bytes transferred; all else stays. No reply is sent
 pub record ConfirmsItsOwn : Type 0 where
   pub confirmed : (t : Table) (m buf : List ℕ) (o : Outcome) (left : List ℕ) (path tag offset arrival : ℕ) (complete : Bool)
-      → Good t → Answers (messageOf t m (length buf)) buf o left → askedOf (readOf m) ≡ By path tag (Confirm offset complete) → o .answer ≡ answer.Confirmed arrival
-      → (i : ℕ) × (a : Task) × Awaited t path tag arrival i a × (at (o .table) i ≡ none)
-      × ((j : ℕ) → j < 64 → (j ≡ i → ⊥) → at (o .table) j ≡ at t j) × (left ≡ buf)
+      → Good t → MessageContract t m buf o left → askedOf (readOf m) ≡ By path tag (Confirm offset complete) → o .answer ≡ answer.Confirmed arrival
+      → (complete ≡ true) × (i : ℕ) × (a : Task) × Awaited t path tag arrival i a × (at (o .table) i ≡ none) × OnlyRecord i t (o .table) × (left ≡ buf)
   pub restarted : (t : Table) (m buf : List ℕ) (o : Outcome) (left : List ℕ) (path tag offset arrival : ℕ) (complete : Bool)
-      → Good t → Answers (messageOf t m (length buf)) buf o left → askedOf (readOf m) ≡ By path tag (Confirm offset complete) → o .answer ≡ answer.Restarted arrival
-      → (i : ℕ) × (a : Task) × Awaited t path tag arrival i a × (offset ≤ a .transferred) × (at (o .table) i ≡ some (restarts offset a))
-      × ((j : ℕ) → j < 64 → (j ≡ i → ⊥) → at (o .table) j ≡ at t j) × (left ≡ buf)
+      → Good t → MessageContract t m buf o left → askedOf (readOf m) ≡ By path tag (Confirm offset complete) → o .answer ≡ answer.Restarted arrival
+      → (complete ≡ false) × (i : ℕ) × (a : Task) × Awaited t path tag arrival i a × (offset ≤ a .transferred) × (at (o .table) i ≡ some (restarts offset a))
+      × OnlyRecord i t (o .table) × (left ≡ buf)
 
 -- ---- every call keeps a table sound, and setup's is
 

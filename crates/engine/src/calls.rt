@@ -1,13 +1,12 @@
 // The five calls, and the part of a message that is its command block.
 ghost use mathlib.Core.Path.{_≡_};
 ghost use mathlib.Core.Bool.{cond};
-ghost use lib.ListN.{length};
 ghost use lib.Dec.{ltb};
-ghost use Rattle.engine.specs.Calls.{replyPath, heardOf, senderOf, messageOf, mayGo, rejected, startVerdict, startOf, mayFinish, sentSense, finishVerdict, finishOf, totalResetOf, setupOf, replied, Answers, handedOver};
+ghost use Rattle.engine.specs.Calls.{replyPath, heardOf, senderOf, mayGo, rejected, startVerdict, mayFinish, sentSense, finishVerdict, replied};
+ghost use Rattle.engine.specs.Calls.{SetupContract, MessageContract, StartContract, FinishContract, TotalResetContract, CommandBlockContract};
 ghost use Rattle.wire.specs.Paper;
 ghost use Rattle.wire.specs.Paper.{statusByte, sense};
 ghost use Rattle.plan.specs.Plans.{refusing, planOf};
-ghost use Rattle.task.specs.Selections.{runningOn};
 use crate::Outcome;
 use plan::Answer;
 use plan::Asked;
@@ -15,18 +14,13 @@ use plan::RecordChange;
 use plan::Plan;
 use plan::Request;
 use reply::Reply;
-use rules::rules::Lookup;
-use rules::rules::look_up;
+use rules::facts::Lookup;
+use rules::facts::look_up;
 use table::Aca;
-use table::RECORDS;
+use task::RECORDS;
+use table::PATHS;
 use table::Table;
-use table::changes::running_as;
-use task::Kind;
-use task::Phase;
-use task::select::Place;
 use task::select::Selection;
-use task::select::Sort;
-use task::select::Stage;
 use wire::codes::REPLY_ROOM;
 use wire::codes::Refusal;
 use wire::codes::Sense;
@@ -37,23 +31,8 @@ fn reply_path(a: Answer, path: u32) -> u32
     ensures { λ r. ⌜ r ≡ replyPath a path ⌝ }
 {
     match a {
-        Answer::Ready => 0,
-        Answer::Accepted(_) => 0,
-        Answer::Response { tag: _, code: _ } => path,
-        Answer::Status {
-            tag: _,
-            status: _,
-            sense: _,
-        } => path,
-        Answer::Invalid { tag: _ } => path,
-        Answer::Started {
-            offset: _,
-            arrival: _,
-        } => 0,
-        Answer::Confirmed(_) => 0,
-        Answer::Restarted(_) => 0,
-        Answer::Reset => 0,
-        Answer::Refused(_) => 0,
+        Answer::Reply(_) => path,
+        _ => 0,
     }
 }
 
@@ -84,30 +63,15 @@ fn sender_of(a: Asked) -> u32
     }
 }
 
-// The reply that an answer asks for.
+// The reply that an answer is, into the buffer.
 fn reply_to(a: Answer, reply: &mut [u8])
     ensures { λ _. ⌜ now (reply .exit) ≡ replied a (now (reply .entry)) ⌝ }
 {
     match a {
-        Answer::Ready => {}
-        Answer::Accepted(_) => {}
-        Answer::Response { tag, code } => {
-            reply::write(Reply::Response { tag, code }, reply);
+        Answer::Reply(r) => {
+            reply::write(r, reply);
         }
-        Answer::Status { tag, status, sense } => {
-            reply::write(Reply::Status { tag, status, sense }, reply);
-        }
-        Answer::Invalid { tag } => {
-            reply::write(Reply::Invalid { tag }, reply);
-        }
-        Answer::Started {
-            offset: _,
-            arrival: _,
-        } => {}
-        Answer::Confirmed(_) => {}
-        Answer::Restarted(_) => {}
-        Answer::Reset => {}
-        Answer::Refused(_) => {}
+        _ => {}
     }
 }
 
@@ -115,7 +79,7 @@ fn reply_to(a: Answer, reply: &mut [u8])
 fn plan_for(s: Lookup, next: u64, p: u8, tag: u16, m: &[u8], w: Request) -> Plan
     ensures { λ r. ⌜ r ≡ cond (ltb p 8) (planOf s next p tag (now (m .entry)) w) (refusing Paper.unknownPath) ⌝ }
 {
-    if p >= 8 {
+    if p as usize >= PATHS {
         return plan::refuse(Refusal::UNKNOWN_PATH);
     }
     plan::find_plan(s, next, p, tag, m, w)
@@ -124,7 +88,7 @@ fn plan_for(s: Lookup, next: u64, p: u8, tag: u16, m: &[u8], w: Request) -> Plan
 // A message received: the next table, the answer, and the reply in the buffer. The plan is found first, then carried out on the one table:
 // paths and units in place, then the records.
 pub fn message(mut t: Table, m: &[u8], reply: &mut [u8]) -> Outcome
-    ensures { λ o. ⌜ Answers (messageOf t (now (m .entry)) (length (now (reply .entry)))) (now (reply .entry)) o (now (reply .exit)) ⌝ }
+    ensures { λ o. ⌜ MessageContract t (now (m .entry)) (now (reply .entry)) o (now (reply .exit)) ⌝ }
 {
     let asked = heard(t.sound(), reply.len(), m);
     let plan = match asked {
@@ -167,34 +131,14 @@ pub fn message(mut t: Table, m: &[u8], reply: &mut [u8]) -> Outcome
     }
 }
 
-// What runs on the unit, and what may go next there: under ACA only the ACA task.
-fn running_on(unit: u8) -> Selection
-    ensures { λ r. ⌜ r ≡ runningOn unit ⌝ }
-{
-    let all = Selection::ALL;
-    Selection {
-        place: Place::On(unit),
-        stage: Stage::Now(Phase::Running),
-        ..all
-    }
-}
-
+// What may go next on the unit: under ACA only the ACA task.
 fn may_go(aca: Aca, unit: u8) -> Selection
     ensures { λ r. ⌜ r ≡ mayGo aca unit ⌝ }
 {
-    let all = Selection::ALL;
-    let waiting = Selection {
-        place: Place::On(unit),
-        stage: Stage::Now(Phase::Waiting),
-        ..all
-    };
-    if rules::rules::has_aca(aca) {
-        return Selection {
-            sort: Sort::Just(Kind::Aca),
-            ..waiting
-        };
+    if table::units::has_aca(aca) {
+        return Selection::aca_waiting_on(unit);
     }
-    waiting
+    Selection::waiting_on(unit)
 }
 
 // What a call of the device comes to: the answer, the record that it is about, or 64, and the id of the path that the reply goes to.
@@ -224,7 +168,7 @@ fn choose(t: Table, unit: u8) -> Verdict
     if !t.is_attached(unit) {
         return reject(Refusal::NOT_ATTACHED);
     }
-    let running = t.pick(running_on(unit));
+    let running = t.pick(Selection::running_on(unit));
     if running.found {
         return reject(Refusal::UNIT_BUSY);
     }
@@ -247,7 +191,7 @@ fn choose(t: Table, unit: u8) -> Verdict
 
 // The unit is free: the task that goes next runs. The answer has its arrival number and the offset to start at.
 pub fn start(mut t: Table, unit: u8) -> Outcome
-    ensures { λ o. ⌜ o ≡ startOf t unit ⌝ }
+    ensures { λ o. ⌜ StartContract t unit o ⌝ }
 {
     let v = choose(t, unit);
     let answer = v.answer;
@@ -302,18 +246,18 @@ fn judge(t: Table, arrival: u64, status: StatusByte, sense: Sense, n: usize) -> 
     if !may_finish(status, sense) {
         return reject(Refusal::BAD_STATUS);
     }
-    let p = t.pick(running_as(arrival));
+    let p = t.pick(Selection::running_as(arrival));
     if !p.found {
         return reject(Refusal::NOT_RUNNING);
     }
     let a = p.task;
     let sender = t.path_at(a.path as usize);
     Verdict {
-        answer: Answer::Status {
+        answer: Answer::Reply(Reply::Status {
             tag: a.tag,
             status,
             sense: sent_sense(status, sense),
-        },
+        }),
         place: p.at,
         to: sender.id,
     }
@@ -330,7 +274,7 @@ pub fn finish(
     transferred: u64,
     reply: &mut [u8],
 ) -> Outcome
-    ensures { λ o. ⌜ Answers (finishOf t arrival (statusByte status) (sense key code qualifier) transferred (length (now (reply .entry)))) (now (reply .entry)) o (now (reply .exit)) ⌝ }
+    ensures { λ o. ⌜ FinishContract t arrival (statusByte status) (sense key code qualifier) transferred (now (reply .entry)) o (now (reply .exit)) ⌝ }
 {
     let s = Sense {
         key,
@@ -352,7 +296,7 @@ pub fn finish(
 
 // Everything is reset; arrival numbers go on.
 pub fn total_reset(mut t: Table) -> Outcome
-    ensures { λ o. ⌜ o ≡ totalResetOf t ⌝ }
+    ensures { λ o. ⌜ TotalResetContract t o ⌝ }
 {
     let mut answer = Answer::Refused(Refusal::NOT_SOUND);
     if t.sound() {
@@ -368,7 +312,7 @@ pub fn total_reset(mut t: Table) -> Outcome
 
 // The first table, for a list of path ids, the mask of attached units and the first arrival number.
 pub fn setup(ids: &[u32], attached: u8, first: u64) -> Outcome
-    ensures { λ o. ⌜ o ≡ setupOf (now (ids .entry)) attached first ⌝ }
+    ensures { λ o. ⌜ SetupContract (now (ids .entry)) attached first o ⌝ }
 {
     let t = Table::new(ids, attached, first);
     let mut answer = Answer::Ready;
@@ -384,25 +328,10 @@ pub fn setup(ids: &[u32], attached: u8, first: u64) -> Outcome
 
 // The command block that goes to the device with an accepted command: a part of the message, no copy. Any other answer hands over an empty part.
 pub fn command_block(m: &[u8], a: Answer) -> &[u8]
-    ensures { λ r. ⌜ now r ≡ handedOver (now (m .entry)) a ⌝ }
+    ensures { λ r. ⌜ CommandBlockContract (now (m .entry)) a (now r) ⌝ }
 {
     match a {
         Answer::Accepted(_) => wire::block::command_block(m),
-        Answer::Ready => &m[..0],
-        Answer::Response { tag: _, code: _ } => &m[..0],
-        Answer::Status {
-            tag: _,
-            status: _,
-            sense: _,
-        } => &m[..0],
-        Answer::Invalid { tag: _ } => &m[..0],
-        Answer::Started {
-            offset: _,
-            arrival: _,
-        } => &m[..0],
-        Answer::Confirmed(_) => &m[..0],
-        Answer::Restarted(_) => &m[..0],
-        Answer::Reset => &m[..0],
-        Answer::Refused(_) => &m[..0],
+        _ => &m[..0],
     }
 }

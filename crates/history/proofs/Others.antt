@@ -25,8 +25,8 @@ use Rattle.rules.specs.Rules.{factsOf, lookupOf, deciding}
 use Rattle.rules.specs.Management.{orderCode}
 use Rattle.plan.specs.Plans.{ruled, orderPlan}
 use Rattle.engine.specs.Calls.{withParts, planAt, withRecords, carriedOut}
-use Rattle.rules.specs.declared.rules.Ruling.{Ruling}
-use Rattle.rules.specs.declared.rules.Ruling.the-variants.{Refuse, Respond, Report, Invalid, Accept}
+use Rattle.rules.specs.declared.command.Ruling.{Ruling}
+use Rattle.rules.specs.declared.command.Ruling.the-variants.{Refuse, Respond, Report, Invalid, Accept}
 use Rattle.rules.specs.declared.manage.Order.the-variants.{AbortTask}
 use Rattle.plan.specs.declared.Request.{Request}
 use Rattle.plan.specs.declared.Request.the-variants.{Command, Manage, Confirm}

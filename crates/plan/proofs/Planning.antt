@@ -14,6 +14,7 @@ use Rattle.wire.specs.declared.codes.StatusByte.{StatusByte}
 use Rattle.wire.specs.declared.message.Flags.{Flags}
 use Rattle.wire.specs.declared.message.Message.{Message}
 use Rattle.wire.specs.declared.message.Message.the-variants as message
+use Rattle.reply.specs.declared.Reply.the-variants as reply
 use Rattle.task.specs.Selections.{numberedAs}
 use Rattle.task.specs.declared.Kind.{Kind}
 use Rattle.task.specs.declared.Kind.the-variants as kind
@@ -21,14 +22,16 @@ use Rattle.task.specs.declared.Phase.the-variants as phase
 use Rattle.task.specs.declared.scan.Pick.{Pick}
 use Rattle.task.specs.declared.select.Selection.{Selection}
 use Rattle.rules.specs.Rules.{deciding, decision}
-use Rattle.rules.specs.Management.{endsOf, orderCode}
-use Rattle.rules.specs.declared.rules.Facts.{Facts}
-use Rattle.rules.specs.declared.rules.Lookup.{Lookup}
-use Rattle.rules.specs.declared.rules.SenderChange.{SenderChange}
-use Rattle.rules.specs.declared.rules.SenderChange.the-variants.{ClearMark}
-use Rattle.rules.specs.declared.rules.Ruling.{Ruling}
-use Rattle.rules.specs.declared.rules.Ruling.the-variants.{Refuse, Respond, Report, Invalid, Accept}
-use Rattle.rules.specs.declared.rules.Decision.{Decision}
+use Rattle.rules.specs.Management.{endsOf, orderCode, orderChange}
+use Rattle.rules.specs.declared.change.Change.{Change}
+use Rattle.rules.specs.declared.change.Change.the-variants as change
+use Rattle.rules.specs.declared.facts.Facts.{Facts}
+use Rattle.rules.specs.declared.facts.Lookup.{Lookup}
+use Rattle.rules.specs.declared.change.SenderChange.{SenderChange}
+use Rattle.rules.specs.declared.change.SenderChange.the-variants.{ClearMark}
+use Rattle.rules.specs.declared.command.Ruling.{Ruling}
+use Rattle.rules.specs.declared.command.Ruling.the-variants.{Refuse, Respond, Report, Invalid, Accept}
+use Rattle.rules.specs.declared.command.Decision.{Decision}
 use Rattle.rules.specs.declared.manage.Order.{Order}
 use Rattle.rules.specs.declared.manage.Order.the-variants as order
 use Rattle.plan.specs.Plans.{askedOf, kindOf, planned, refusing, ruled, orderPlan, isAwaited, confirmPlan, planOf}
@@ -36,7 +39,6 @@ use Rattle.plan.specs.declared.Request.{Request}
 use Rattle.plan.specs.declared.Request.the-variants.{Command, Manage, Confirm}
 use Rattle.plan.specs.declared.Asked.{Asked}
 use Rattle.plan.specs.declared.Asked.the-variants.{By, Unread}
-use Rattle.plan.specs.declared.Change.the-variants as change
 use Rattle.plan.specs.declared.RecordChange.the-variants as records
 use Rattle.plan.specs.declared.Plan.{Plan}
 use Rattle.plan.specs.declared.Answer.the-variants as answer
@@ -99,13 +101,13 @@ module _ (next p tag lun : ℕ) (flags : Flags) {r : Ruling} where
   pub refuses : {n : Refusal} {pl : Plan} → r ≡ Refuse n → pl ≡ refusing n → pl ≡ ruled next p tag lun flags r
   refuses e h = rw e h
 
-  pub responds : {code : ReturnCode} {sender : SenderChange} → r ≡ Respond code sender → planned (answer.Response tag code) (change.OfSender p sender) records.Nothing ≡ ruled next p tag lun flags r
+  pub responds : {code : ReturnCode} {sender : SenderChange} → r ≡ Respond code sender → planned (answer.Reply (reply.Response tag code)) (change.OfSender p sender) records.Nothing ≡ ruled next p tag lun flags r
   responds e = rw e
 
-  pub reports : {status : StatusByte} {sense : Sense} {sender : SenderChange} → r ≡ Report status sense sender → planned (answer.Status tag status sense) (change.OfSender p sender) records.Nothing ≡ ruled next p tag lun flags r
+  pub reports : {status : StatusByte} {sense : Sense} {sender : SenderChange} → r ≡ Report status sense sender → planned (answer.Reply (reply.Status tag status sense)) (change.OfSender p sender) records.Nothing ≡ ruled next p tag lun flags r
   reports e = rw e
 
-  pub faults : {sender : SenderChange} → r ≡ Invalid sender → planned (answer.Invalid tag) (change.OfSender p sender) records.Nothing ≡ ruled next p tag lun flags r
+  pub faults : {sender : SenderChange} → r ≡ Invalid sender → planned (answer.Reply (reply.Invalid tag)) (change.OfSender p sender) records.Nothing ≡ ruled next p tag lun flags r
   faults e = rw e
 
   pub takes : {k : Kind} → r ≡ Accept → k ≡ kindOf (flags .queue) → planned (answer.Accepted next) (change.OfSender p ClearMark) (records.Accept p tag lun k (flags .confirm)) ≡ ruled next p tag lun flags r
@@ -114,12 +116,13 @@ module _ (next p tag lun : ℕ) (flags : Flags) {r : Ruling} where
 pub ruleset ruled-cases = (refuses, responds, reports, faults, takes)
 
 -- an order, by its return code
-module _ (f : Facts) (p tag : ℕ) (m : List ℕ) (o : Order) {code : ReturnCode} (e : code ≡ orderCode f m o) where
-  pub done : {s : Selection} → s ≡ endsOf p o → code .0 ≡ Paper.done .0 → planned (answer.Response tag code) (change.ByOrder (f .others) o) (records.End s) ≡ orderPlan f p tag m o
+module _ (f : Facts) (others p tag : ℕ) (m : List ℕ) (o : Order) {code : ReturnCode} (e : code ≡ orderCode f m o) where
+  pub done : {c : Change} {s : Selection} → c ≡ orderChange others o → s ≡ endsOf p o → code .0 ≡ Paper.done .0
+      → planned (answer.Reply (reply.Response tag code)) c (records.End s) ≡ orderPlan f others p tag m o
   unfolding orderPlan
-  done h k = rw (h, ← e, eq-eqb _ _ k)
+  done g h k = rw (g, h, ← e, eq-eqb _ _ k)
 
-  pub not-done : {pl : Plan} → (code .0 ≡ Paper.done .0 → ⊥) → pl ≡ planned (answer.Response tag code) change.Nothing records.Nothing → pl ≡ orderPlan f p tag m o
+  pub not-done : {pl : Plan} → (code .0 ≡ Paper.done .0 → ⊥) → pl ≡ planned (answer.Reply (reply.Response tag code)) change.Nothing records.Nothing → pl ≡ orderPlan f others p tag m o
   unfolding orderPlan
   not-done k h = h ∙ rw (← e, ne-eqb _ _ k)
 
@@ -144,7 +147,7 @@ pub ruleset awaited-cases = (none-picked, still-waits, still-runs, awaits)
 
 -- a confirmation, test by test
 module _ (own : Pick) (p tag : ℕ) (m : List ℕ) (offset : ℕ) (complete : Bool) {b : Bool} (e : b ≡ reservedSet m) where
-  pub confirms-reserved : {pl : Plan} → b ≡ true → pl ≡ planned (answer.Response tag Paper.invalidField) change.Nothing records.Nothing → pl ≡ confirmPlan own p tag m offset complete
+  pub confirms-reserved : {pl : Plan} → b ≡ true → pl ≡ planned (answer.Reply (reply.Response tag Paper.invalidField)) change.Nothing records.Nothing → pl ≡ confirmPlan own p tag m offset complete
   unfolding confirmPlan
   confirms-reserved h k = rw (← e, h) k
 
@@ -159,7 +162,7 @@ module _ (own : Pick) (p tag : ℕ) (m : List ℕ) (offset : ℕ) (complete : Bo
       unfolding confirmPlan
       completes j k = rw (k, ← e, h, ← a, i, j)
 
-      pub confirms-past : {pl : Plan} → complete ≡ false → own .task .transferred < offset → pl ≡ planned (answer.Response tag Paper.invalidField) change.Nothing records.Nothing
+      pub confirms-past : {pl : Plan} → complete ≡ false → own .task .transferred < offset → pl ≡ planned (answer.Reply (reply.Response tag Paper.invalidField)) change.Nothing records.Nothing
           → pl ≡ confirmPlan own p tag m offset complete
       unfolding confirmPlan
       confirms-past j l k = rw (← e, h, ← a, i, j, lt-ltb _ _ l) k
@@ -176,7 +179,7 @@ module _ (s : Lookup) (next p tag : ℕ) (m : List ℕ) {w : Request} {pl : Plan
   pub by-rules : {lun : ℕ} {flags : Flags} {d : Decision} → w ≡ Command lun flags → d ≡ decision (deciding (s .facts) flags m) → pl ≡ ruled next p tag lun flags (d .ruling) → pl ≡ planOf s next p tag m w
   by-rules e h k = rw e (rw h at k)
 
-  pub by-order : {o : Order} → w ≡ Manage o → pl ≡ orderPlan (s .facts) p tag m o → pl ≡ planOf s next p tag m w
+  pub by-order : {o : Order} → w ≡ Manage o → pl ≡ orderPlan (s .facts) (s .others) p tag m o → pl ≡ planOf s next p tag m w
   by-order e k = rw e k
 
   pub by-confirming : {offset : ℕ} {complete : Bool} → w ≡ Confirm offset complete → pl ≡ confirmPlan (s .own) p tag m offset complete → pl ≡ planOf s next p tag m w

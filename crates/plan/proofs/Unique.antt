@@ -1,5 +1,5 @@
 -- The answers are one: each by the law that an equation determines its left side. Assumes nothing.
-use Rattle.task.proofs.Promises.{determined}
+use Rattle.wire.proofs.Unique.{determined}
 use Rattle.plan.specs.Unique.{AnswersAreOne}
 
 pub answers-are-one : AnswersAreOne

@@ -1,7 +1,8 @@
--- The plan of an answer: what a message asks, what is answered, and what that does to paths and units (the change) and to the records (the deed).
+-- The plan of an answer: what a message asks, what is answered, and what that does to paths and units (the change) and to the records.
 use Prim.Native.Nat.{ℕ}
 use mathlib.Core.Bool.{Bool, true, false, cond, not, _&&_}
 use mathlib.Core.List.{List}
+use mathlib.Core.Option.{Option, none, some}
 use lib.Dec.{eqb, ltb}
 use Rattle.wire.specs.Paper
 use Rattle.wire.specs.Messages.{reservedSet}
@@ -10,30 +11,33 @@ use Rattle.wire.specs.declared.codes.Queue.{Queue}
 use Rattle.wire.specs.declared.message.Flags.{Flags}
 use Rattle.wire.specs.declared.message.Message.{Message}
 use Rattle.wire.specs.declared.message.Message.the-variants as message
+use Rattle.reply.specs.declared.Reply.{Reply}
+use Rattle.reply.specs.declared.Reply.the-variants as reply
 use Rattle.task.specs.Tasks.{isUnconfirmed}
 use Rattle.task.specs.Selections.{numberedAs}
 use Rattle.task.specs.declared.scan.Pick.{Pick}
 use Rattle.task.specs.declared.Kind.{Kind}
 use Rattle.task.specs.declared.Kind.the-variants as kind
-use Rattle.table.specs.Tables.{markedIn, attentionGoneIn}
+use Rattle.task.specs.declared.select.Place.the-variants.{On}
+use Rattle.table.specs.Tables.{markedIn, attentionGoneIn, clearedAttentionIn, resetAttentionIn, acaClearedIn}
 use Rattle.table.specs.declared.Path as path
 use Rattle.table.specs.declared.Unit as unit
 use Rattle.rules.specs.Rules.{deciding}
-use Rattle.rules.specs.Management.{endsOf, tagOf, unitOf, isClearSet, orderCode, orderPaths, orderUnits}
-use Rattle.rules.specs.declared.rules.Facts.{Facts}
-use Rattle.rules.specs.declared.rules.Lookup.{Lookup}
-use Rattle.rules.specs.declared.rules.SenderChange.{SenderChange}
-use Rattle.rules.specs.declared.rules.SenderChange.the-variants.{Stays, SetMark, ClearMark, ClearMarkAndAttention}
-use Rattle.rules.specs.declared.rules.Ruling.{Ruling}
-use Rattle.rules.specs.declared.rules.Ruling.the-variants.{Refuse, Respond, Report, Invalid, Accept}
+use Rattle.rules.specs.Management.{endsOf, tagOf, unitOf, isClearSet, orderCode, orderChange}
+use Rattle.rules.specs.declared.change.Change.{Change}
+use Rattle.rules.specs.declared.change.Change.the-variants as change
+use Rattle.rules.specs.declared.facts.Facts.{Facts}
+use Rattle.rules.specs.declared.facts.Lookup.{Lookup}
+use Rattle.rules.specs.declared.change.SenderChange.{SenderChange}
+use Rattle.rules.specs.declared.change.SenderChange.the-variants.{Stays, SetMark, ClearMark, ClearMarkAndAttention}
+use Rattle.rules.specs.declared.command.Ruling.{Ruling}
+use Rattle.rules.specs.declared.command.Ruling.the-variants.{Refuse, Respond, Report, Invalid, Accept}
 use Rattle.rules.specs.declared.manage.Order.{Order}
 use Rattle.rules.specs.declared.manage.Order.the-variants as order
 use Rattle.plan.specs.declared.Request.{Request}
 use Rattle.plan.specs.declared.Request.the-variants.{Command, Manage, Confirm}
 use Rattle.plan.specs.declared.Asked.{Asked}
 use Rattle.plan.specs.declared.Asked.the-variants.{By, Unread}
-use Rattle.plan.specs.declared.Change.{Change}
-use Rattle.plan.specs.declared.Change.the-variants as change
 use Rattle.plan.specs.declared.RecordChange.{RecordChange}
 use Rattle.plan.specs.declared.RecordChange.the-variants as records
 use Rattle.plan.specs.declared.Plan.{Plan}
@@ -76,6 +80,18 @@ kindOf q =
     cond (eqb (q .0) (Paper.queueAca .0)) kind.Aca
     (cond (eqb (q .0) (Paper.queueHead .0)) kind.Head (cond (eqb (q .0) (Paper.queueOrdered .0)) kind.Ordered kind.Simple))
 
+-- ---- the reply that an answer is
+
+abbrev pub replyOf : Answer → Option Reply
+replyOf answer.Ready = none
+replyOf (answer.Accepted n) = none
+replyOf (answer.Reply r) = some r
+replyOf (answer.Started offset arrival) = none
+replyOf (answer.Confirmed n) = none
+replyOf (answer.Restarted n) = none
+replyOf answer.Reset = none
+replyOf (answer.Refused n) = none
+
 -- ---- the plan
 
 abbrev pub planned : Answer → Change → RecordChange → Plan
@@ -88,17 +104,17 @@ refusing n = planned (answer.Refused n) change.Nothing records.Nothing
 -- a ruling on a command of the path at p with a TAG, a LUN and flags, under the next arrival number
 abbrev pub ruled : ℕ → ℕ → ℕ → ℕ → Flags → Ruling → Plan
 ruled next p tag lun flags (Refuse n) = refusing n
-ruled next p tag lun flags (Respond code sender) = planned (answer.Response tag code) (change.OfSender p sender) records.Nothing
-ruled next p tag lun flags (Report status sense sender) = planned (answer.Status tag status sense) (change.OfSender p sender) records.Nothing
-ruled next p tag lun flags (Invalid sender) = planned (answer.Invalid tag) (change.OfSender p sender) records.Nothing
+ruled next p tag lun flags (Respond code sender) = planned (answer.Reply (reply.Response tag code)) (change.OfSender p sender) records.Nothing
+ruled next p tag lun flags (Report status sense sender) = planned (answer.Reply (reply.Status tag status sense)) (change.OfSender p sender) records.Nothing
+ruled next p tag lun flags (Invalid sender) = planned (answer.Reply (reply.Invalid tag)) (change.OfSender p sender) records.Nothing
 ruled next p tag lun flags Accept = planned (answer.Accepted next) (change.OfSender p ClearMark) (records.Accept p tag lun (kindOf (flags .queue)) (flags .confirm))
 
 -- an order of the path at p changes the table only where it is answered 00h
-unfoldable pub orderPlan : Facts → ℕ → ℕ → List ℕ → Order → Plan
-orderPlan f p tag m o =
+unfoldable pub orderPlan : Facts → ℕ → ℕ → ℕ → List ℕ → Order → Plan
+orderPlan f others p tag m o =
     cond (eqb (orderCode f m o .0) (Paper.done .0))
-    (planned (answer.Response tag (orderCode f m o)) (change.ByOrder (f .others) o) (records.End (endsOf p o)))
-    (planned (answer.Response tag (orderCode f m o)) change.Nothing records.Nothing)
+    (planned (answer.Reply (reply.Response tag (orderCode f m o))) (orderChange others o) (records.End (endsOf p o)))
+    (planned (answer.Reply (reply.Response tag (orderCode f m o))) change.Nothing records.Nothing)
 
 -- the sender's task with the tag waits to be confirmed: a waiting or running one does not
 abbrev pub isAwaited : Pick → Bool
@@ -108,15 +124,15 @@ isAwaited own = own .found && isUnconfirmed (own .task .phase)
 -- COMPLETE clear: an offset past the bytes transferred gives FFh; else the task waits again, to start there. Neither the mark nor the attention of the sender is looked at
 unfoldable pub confirmPlan : Pick → ℕ → ℕ → List ℕ → ℕ → Bool → Plan
 confirmPlan own p tag m offset complete =
-    cond (reservedSet m) (planned (answer.Response tag Paper.invalidField) change.Nothing records.Nothing)
+    cond (reservedSet m) (planned (answer.Reply (reply.Response tag Paper.invalidField)) change.Nothing records.Nothing)
     (cond (not (isAwaited own)) (refusing Paper.nothingToConfirm)
     (cond complete (planned (answer.Confirmed (own .task .arrival)) change.Nothing (records.End (numberedAs (own .task .arrival) p tag)))
-    (cond (ltb (own .task .transferred) offset) (planned (answer.Response tag Paper.invalidField) change.Nothing records.Nothing)
+    (cond (ltb (own .task .transferred) offset) (planned (answer.Reply (reply.Response tag Paper.invalidField)) change.Nothing records.Nothing)
     (planned (answer.Restarted (own .task .arrival)) change.Nothing (records.Restart (own .at) offset)))))
 
 abbrev pub planOf : Lookup → ℕ → ℕ → ℕ → List ℕ → Request → Plan
 planOf s next p tag m (Command lun flags) = ruled next p tag lun flags (deciding (s .facts) flags m .gives)
-planOf s next p tag m (Manage o) = orderPlan (s .facts) p tag m o
+planOf s next p tag m (Manage o) = orderPlan (s .facts) (s .others) p tag m o
 planOf s next p tag m (Confirm offset complete) = confirmPlan (s .own) p tag m offset complete
 
 -- ---- what a change does to paths and units
@@ -128,12 +144,17 @@ senderAfter paths p SetMark = markedIn paths p true
 senderAfter paths p ClearMark = markedIn paths p false
 senderAfter paths p ClearMarkAndAttention = attentionGoneIn (markedIn paths p false) p
 
+-- the paths, of which the first `count` are listed
 abbrev pub pathsAfter : List path.Path → ℕ → Change → List path.Path
 pathsAfter paths count change.Nothing = paths
 pathsAfter paths count (change.OfSender p sender) = senderAfter paths p sender
-pathsAfter paths count (change.ByOrder others o) = orderPaths paths count others o
+pathsAfter paths count (change.ClearedAttention others) = clearedAttentionIn paths others
+pathsAfter paths count (change.AcaGoes unit) = paths
+pathsAfter paths count (change.Resets place) = resetAttentionIn paths count false
 
 abbrev pub unitsAfter : List unit.Unit → Change → List unit.Unit
 unitsAfter units change.Nothing = units
 unitsAfter units (change.OfSender p sender) = units
-unitsAfter units (change.ByOrder others o) = orderUnits units o
+unitsAfter units (change.ClearedAttention others) = units
+unitsAfter units (change.AcaGoes unit) = acaClearedIn units (On unit)
+unitsAfter units (change.Resets place) = acaClearedIn units place

@@ -3,13 +3,13 @@ use Prim.Native.Nat.{ℕ}
 use mathlib.Core.List.{List}
 use Rattle.wire.specs.declared.codes.Refusal.{Refusal}
 use Rattle.wire.specs.declared.message.Message.{Message}
-use Rattle.task.specs.Promises.{One}
+use Rattle.wire.specs.Unique.{One}
 use Rattle.table.specs.declared.Path as path
 use Rattle.table.specs.declared.Unit as unit
-use Rattle.rules.specs.declared.rules.Lookup.{Lookup}
+use Rattle.rules.specs.declared.facts.Lookup.{Lookup}
 use Rattle.plan.specs.Plans.{askedOf, tagAsked, unitAsked, clearsSet, refusing, planOf, pathsAfter, unitsAfter}
 use Rattle.plan.specs.declared.Request.{Request}
-use Rattle.plan.specs.declared.Change.{Change}
+use Rattle.rules.specs.declared.change.Change.{Change}
 
 pub record AnswersAreOne : Type 0 where
   pub ask : (g : Message) → One (askedOf g)

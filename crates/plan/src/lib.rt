@@ -1,25 +1,23 @@
 // The plan: what a message asks, the answer to it, and what that does to the table. No table travels here.
 ghost use mathlib.Core.Path.{_≡_};
-ghost use Rattle.task.specs.Selections.{numberedAs};
 ghost use Rattle.plan.specs.Plans.{askedOf, tagAsked, unitAsked, clearsSet, kindOf, planned, refusing, ruled, orderPlan, isAwaited, confirmPlan, planOf, senderAfter, pathsAfter, unitsAfter};
+use reply::Reply;
+use rules::change::Change;
+use rules::change::SenderChange;
+use rules::command::Ruling;
+use rules::facts::Facts;
+use rules::facts::Lookup;
 use rules::manage::Order;
-use rules::rules::Facts;
-use rules::rules::SenderChange;
-use rules::rules::Ruling;
-use rules::rules::Lookup;
 use table::Path;
 use table::Unit;
 use task::Kind;
 use task::Phase;
 use task::scan::Pick;
-use task::select::Number;
+use task::select::Place;
 use task::select::Selection;
-use task::select::Whose;
 use wire::codes::Queue;
 use wire::codes::Refusal;
 use wire::codes::ReturnCode;
-use wire::codes::Sense;
-use wire::codes::StatusByte;
 use wire::message::Flags;
 use wire::message::Message;
 
@@ -34,16 +32,6 @@ pub enum Request {
 pub enum Asked {
     By { path: u32, tag: u16, request: Request },
     Unread(Refusal),
-}
-
-// What happens to paths and units.
-pub enum Change {
-    // All stay.
-    Nothing,
-    // A command is answered: the mark and attention of its sender, the path at a place.
-    OfSender(u8, SenderChange),
-    // An order is carried out: what it does besides ending tasks, with the map of the other paths that lose one.
-    ByOrder(u8, Order),
 }
 
 // What happens to the records.
@@ -67,22 +55,11 @@ pub enum RecordChange {
     },
 }
 
-// What a call answers.
+// What a call answers. Reply is the one that leaves bytes in the reply buffer.
 pub enum Answer {
     Ready,
     Accepted(u64),
-    Response {
-        tag: u16,
-        code: ReturnCode,
-    },
-    Status {
-        tag: u16,
-        status: StatusByte,
-        sense: Sense,
-    },
-    Invalid {
-        tag: u16,
-    },
+    Reply(Reply),
     Started {
         offset: u32,
         arrival: u64,
@@ -227,17 +204,17 @@ fn rule(next: u64, p: u8, tag: u16, lun: u8, flags: Flags, r: Ruling) -> Plan
     match r {
         Ruling::Refuse(n) => refuse(n),
         Ruling::Respond(code, sender) => Plan {
-            answer: Answer::Response { tag, code },
+            answer: Answer::Reply(Reply::Response { tag, code }),
             change: Change::OfSender(p, sender),
             records: RecordChange::Nothing,
         },
         Ruling::Report(status, sense, sender) => Plan {
-            answer: Answer::Status { tag, status, sense },
+            answer: Answer::Reply(Reply::Status { tag, status, sense }),
             change: Change::OfSender(p, sender),
             records: RecordChange::Nothing,
         },
         Ruling::Invalid(sender) => Plan {
-            answer: Answer::Invalid { tag },
+            answer: Answer::Reply(Reply::Invalid { tag }),
             change: Change::OfSender(p, sender),
             records: RecordChange::Nothing,
         },
@@ -260,31 +237,19 @@ fn rule(next: u64, p: u8, tag: u16, lun: u8, flags: Flags, r: Ruling) -> Plan
 }
 
 // The plan for an order of the path at p: it changes the table only where it is answered 00h.
-fn plan_order(f: Facts, p: u8, tag: u16, m: &[u8], o: Order) -> Plan
-    ensures { λ r. ⌜ r ≡ orderPlan f p tag (now (m .entry)) o ⌝ }
+fn plan_order(f: Facts, others: u8, p: u8, tag: u16, m: &[u8], o: Order) -> Plan
+    ensures { λ r. ⌜ r ≡ orderPlan f others p tag (now (m .entry)) o ⌝ }
 {
     let code = rules::manage::order_code(f, m, o);
-    let answer = Answer::Response { tag, code };
+    let answer = Answer::Reply(Reply::Response { tag, code });
     if code.0 == ReturnCode::DONE.0 {
         return Plan {
             answer,
-            change: Change::ByOrder(f.others, o),
+            change: rules::manage::order_change(others, o),
             records: RecordChange::End(rules::manage::ends(p, o)),
         };
     }
     tell(answer)
-}
-
-// The task of the path at p with a tag and an arrival number.
-fn numbered(arrival: u64, p: u8, tag: u16) -> Selection
-    ensures { λ r. ⌜ r ≡ numberedAs arrival p tag ⌝ }
-{
-    let all = Selection::ALL;
-    Selection {
-        number: Number::Exactly(arrival),
-        whose: Whose::Named(p, tag),
-        ..all
-    }
 }
 
 // Whether a task was picked that waits to be confirmed.
@@ -310,7 +275,7 @@ fn plan_confirm(own: Pick, p: u8, tag: u16, m: &[u8], offset: u32, complete: boo
 {
     let code = ReturnCode::INVALID_FIELD;
     if wire::message::reserved_set(m) {
-        return tell(Answer::Response { tag, code });
+        return tell(Answer::Reply(Reply::Response { tag, code }));
     }
     if !is_awaited(own) {
         return refuse(Refusal::NOTHING_TO_CONFIRM);
@@ -321,11 +286,11 @@ fn plan_confirm(own: Pick, p: u8, tag: u16, m: &[u8], offset: u32, complete: boo
         return Plan {
             answer: Answer::Confirmed(arrival),
             change: Change::Nothing,
-            records: RecordChange::End(numbered(arrival, p, tag)),
+            records: RecordChange::End(Selection::numbered_as(arrival, p, tag)),
         };
     }
     if offset as u64 > task.transferred {
-        return tell(Answer::Response { tag, code });
+        return tell(Answer::Reply(Reply::Response { tag, code }));
     }
     Plan {
         answer: Answer::Restarted(arrival),
@@ -337,7 +302,7 @@ fn plan_confirm(own: Pick, p: u8, tag: u16, m: &[u8], offset: u32, complete: boo
     }
 }
 
-// The plan for what the path at p asks with a tag, from what was seen of the table and the next arrival number.
+// The plan for what the path at p asks with a tag, from what was looked up in the table and the next arrival number.
 pub fn find_plan(s: Lookup, next: u64, p: u8, tag: u16, m: &[u8], w: Request) -> Plan
     ensures { λ r. ⌜ r ≡ planOf s next p tag (now (m .entry)) w ⌝ }
 {
@@ -345,11 +310,11 @@ pub fn find_plan(s: Lookup, next: u64, p: u8, tag: u16, m: &[u8], w: Request) ->
     let own = s.own;
     match w {
         Request::Command { lun, flags } => {
-            let d = rules::rules::decide(f, flags, m);
+            let d = rules::command::decide(f, flags, m);
             let r = d.ruling;
             rule(next, p, tag, lun, flags, r)
         }
-        Request::Manage(o) => plan_order(f, p, tag, m, o),
+        Request::Manage(o) => plan_order(f, s.others, p, tag, m, o),
         Request::Confirm { offset, complete } => plan_confirm(own, p, tag, m, offset, complete),
     }
 }
@@ -374,7 +339,9 @@ pub fn change_paths(paths: [Path; 8], count: u8, c: Change) -> [Path; 8]
     match c {
         Change::Nothing => paths,
         Change::OfSender(p, sender) => change_sender(paths, p, sender),
-        Change::ByOrder(others, o) => rules::manage::change_paths(paths, count, others, o),
+        Change::ClearedAttention(others) => table::paths::give_cleared_attention(paths, others),
+        Change::AcaGoes(_) => paths,
+        Change::Resets(_) => table::paths::give_reset_attention(paths, count, false),
     }
 }
 
@@ -385,6 +352,8 @@ pub fn change_units(units: [Unit; 8], c: Change) -> [Unit; 8]
     match c {
         Change::Nothing => units,
         Change::OfSender(_, _) => units,
-        Change::ByOrder(_, o) => rules::manage::change_units(units, o),
+        Change::ClearedAttention(_) => units,
+        Change::AcaGoes(unit) => table::units::clear_aca(units, Place::On(unit)),
+        Change::Resets(place) => table::units::clear_aca(units, place),
     }
 }

@@ -13,21 +13,25 @@ use Rattle.wire.specs.Block.{opcode}
 use Rattle.wire.specs.declared.codes.ReturnCode.{ReturnCode}
 use Rattle.wire.specs.declared.message.Flags.{Flags}
 use Rattle.task.specs.Selections.{named, acaOn}
-use Rattle.table.specs.Tables.{pathAt, unitAt, isAttached, hasRoom, othersOn, pickOf}
-use Rattle.table.specs.Sound.{ownedBy}
+use Rattle.task.specs.declared.select.Selection.{Selection}
+use Rattle.table.specs.Tables.{pathAt, unitAt, isAttached, hasAca, ownedBy, hasRoom, othersOn, pickOf}
 use Rattle.table.specs.declared.Path as path
 use Rattle.table.specs.declared.Unit as unit
 use Rattle.task.specs.declared.scan.Pick.{Pick}
 use Rattle.table.specs.declared.Table.{Table}
 use Rattle.rules.specs.First.{Rule, rule, firstThat}
-use Rattle.rules.specs.Rules.{hasAca, factsOf, lookupOf, asksAca, keptOutByAca, passesAttention, decided, decision}
+use Rattle.rules.specs.Facts.{factsOf, lookupOf}
+use Rattle.rules.specs.Rules.{asksAca, keptOutByAca, passesAttention, decided, decision}
 use Rattle.rules.specs.Management.{hasUnit, carriedCode, orderCode}
-use Rattle.rules.specs.declared.rules.Facts.{Facts}
-use Rattle.rules.specs.declared.rules.Ruling.{Ruling}
-use Rattle.rules.specs.declared.rules.Decision.{Decision}
+use Rattle.rules.specs.declared.facts.Facts.{Facts}
+use Rattle.rules.specs.declared.command.Ruling.{Ruling}
+use Rattle.rules.specs.declared.command.Decision.{Decision}
 use Rattle.rules.specs.declared.manage.Order.{Order}
 
 -- ---- what is asked of the table
+
+pub picks-so : (t : Table) (q : Selection) {s : Selection} {p : Pick} → s ≡ q → p ≡ pickOf t s → p ≡ pickOf t q
+picks-so t q e h = rw e at h
 
 module _ (t : Table) (p lun : ℕ) {clears : Bool} {n : ℕ} where
   pub others-asked : {k : ℕ} → n ≡ k → k ≡ othersOn t lun p → clears ≡ true → n ≡ cond clears (othersOn t lun p) 0
@@ -36,10 +40,10 @@ module _ (t : Table) (p lun : ℕ) {clears : Bool} {n : ℕ} where
   pub nobody-asked : n ≡ 0 → clears ≡ false → n ≡ cond clears (othersOn t lun p) 0
   nobody-asked e a = e ∙ rw a
 
-module _ (t : Table) (p tag lun : ℕ) (clears : Bool) {s : path.Path} {u : unit.Unit} {own rival : Pick} {room attached aca owned : Bool} {others : ℕ} where
+module _ (t : Table) (p tag lun : ℕ) {s : path.Path} {u : unit.Unit} {own rival : Pick} {room attached aca owned : Bool} {n others : ℕ} where
   pub looked-up :
       s ≡ pathAt t p → u ≡ unitAt t lun → own ≡ pickOf t (named p tag) → rival ≡ pickOf t (acaOn lun) → room ≡ hasRoom t → attached ≡ isAttached t lun → aca ≡ hasAca (u .aca)
-      → owned ≡ ownedBy (u .aca) p → others ≡ cond clears (othersOn t lun p) 0
+      → owned ≡ ownedBy (u .aca) p → others ≡ n
       → record {
         facts = record {
           marked = s .full;
@@ -50,15 +54,15 @@ module _ (t : Table) (p tag lun : ℕ) (clears : Bool) {s : path.Path} {u : unit
           aca = aca;
           owned = owned;
           busy = rival .found;
-          others = others;
         };
         own = own;
+        others = others;
       }
-      ≡ lookupOf t p tag lun clears
+      ≡ lookupOf t p tag lun n
   unfolding factsOf lookupOf
   looked-up e h a b c d f g k = rw (a, b, c, d, f, g, k, e, h)
 
-pub ruleset look-up-cases = (looked-up, others-asked, nobody-asked)
+pub ruleset look-up-cases = (looked-up, picks-so, others-asked, nobody-asked)
 
 -- ---- the unit's ACA keeps a command out
 

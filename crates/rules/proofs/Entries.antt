@@ -7,8 +7,8 @@ use mathlib.Core.Logic.{inl, inr}
 use lib.ListN.{getD}
 use Rattle.task.proofs.Ways.{either-way, never, cond-ind, both}
 use Rattle.rules.specs.First.{Rule, firstThat}
-use Rattle.rules.specs.declared.rules.Ruling.{Ruling}
-use Rattle.rules.specs.declared.rules.Ruling.the-variants.{Refuse, Respond, Report, Invalid, Accept}
+use Rattle.rules.specs.declared.command.Ruling.{Ruling}
+use Rattle.rules.specs.declared.command.Ruling.the-variants.{Refuse, Respond, Report, Invalid, Accept}
 
 -- every rule's answer meets a test
 unfoldable pub everyGives : (Ruling → Bool) → List Rule → Bool

@@ -1,10 +1,9 @@
 -- The answers are one: each by the law that an equation determines its left side. Assumes nothing.
-use Rattle.task.proofs.Promises.{determined}
+use Rattle.wire.proofs.Unique.{determined}
 use Rattle.rules.specs.Unique.{AnswersAreOne}
 
 pub answers-are-one : AnswersAreOne
 answers-are-one = record {
-  has-aca = λ _ _ _. determined;
   look-up = λ _ _ _ _ _ _ _. determined;
   decide = λ _ _ _ _ _. determined;
   ends = λ _ _ _ _. determined;
@@ -12,6 +11,5 @@ answers-are-one = record {
   unit-of = λ _ _ _. determined;
   clears-set = λ _ _ _. determined;
   order-code = λ _ _ _ _ _. determined;
-  change-paths = λ _ _ _ _ _ _. determined;
-  change-units = λ _ _ _ _. determined;
+  order-change = λ _ _ _ _. determined;
 }

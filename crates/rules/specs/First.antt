@@ -2,7 +2,7 @@
 use Prim.Native.Nat.{ℕ}
 use mathlib.Core.Bool.{Bool, cond}
 use mathlib.Core.List.{List, [], _∷_}
-use Rattle.rules.specs.declared.rules.Ruling.{Ruling}
+use Rattle.rules.specs.declared.command.Ruling.{Ruling}
 
 -- a rule: its number on page 01, whether it applies, the field value behind it, and what it answers
 pub record Rule : Type 0 where

@@ -8,10 +8,9 @@ use Rattle.wire.specs.declared.codes.ReturnCode.{ReturnCode}
 use Rattle.task.specs.Selections.{everyTask, named, onUnit, fromOn, acaFromOn}
 use Rattle.task.specs.declared.select.Selection.{Selection}
 use Rattle.task.specs.declared.select.Place.the-variants.{Anywhere, On}
-use Rattle.table.specs.Tables.{clearedAttentionIn, resetAttentionIn, acaClearedIn}
-use Rattle.table.specs.declared.Path as path
-use Rattle.table.specs.declared.Unit as unit
-use Rattle.rules.specs.declared.rules.Facts.{Facts}
+use Rattle.rules.specs.declared.facts.Facts.{Facts}
+use Rattle.rules.specs.declared.change.Change.{Change}
+use Rattle.rules.specs.declared.change.Change.the-variants.{Nothing, ClearedAttention, AcaGoes, Resets}
 use Rattle.rules.specs.declared.manage.Order.{Order}
 use Rattle.rules.specs.declared.manage.Order.the-variants.{AbortTask, AbortTaskSet, ClearTaskSet, ClearAca, UnitReset, TargetReset}
 
@@ -74,22 +73,14 @@ carriedCode f TargetReset = Paper.done
 unfoldable pub orderCode : Facts → List ℕ → Order → ReturnCode
 orderCode f m o = cond (reservedSet m) Paper.invalidField (cond (hasUnit o && not (f .attached)) Paper.invalidField (carriedCode f o))
 
--- ---- what else an order does
+-- ---- what else an order does, where `others` is the map of the other paths that lose a task
 
--- CLEAR TASK SET: every other path that lost a task gets cleared attention, unless reset is pending. A reset: reset attention on all paths; marks stay
-abbrev pub orderPaths : List path.Path → ℕ → ℕ → Order → List path.Path
-orderPaths paths count others (AbortTask tag2) = paths
-orderPaths paths count others (AbortTaskSet lun) = paths
-orderPaths paths count others (ClearTaskSet lun) = clearedAttentionIn paths others
-orderPaths paths count others (ClearAca lun) = paths
-orderPaths paths count others (UnitReset lun) = resetAttentionIn paths count false
-orderPaths paths count others TargetReset = resetAttentionIn paths count false
-
--- CLEAR ACA and LOGICAL UNIT RESET take the unit's ACA, TARGET RESET that of all units
-abbrev pub orderUnits : List unit.Unit → Order → List unit.Unit
-orderUnits units (AbortTask tag2) = units
-orderUnits units (AbortTaskSet lun) = units
-orderUnits units (ClearTaskSet lun) = units
-orderUnits units (ClearAca lun) = acaClearedIn units (On lun)
-orderUnits units (UnitReset lun) = acaClearedIn units (On lun)
-orderUnits units TargetReset = acaClearedIn units Anywhere
+-- CLEAR TASK SET: every other path that lost one gets cleared attention, unless reset is pending; ACA stays. CLEAR ACA: the unit's ACA goes.
+-- LOGICAL UNIT RESET: the unit's ACA goes; reset attention on all paths; marks stay. TARGET RESET: the same for all units
+abbrev pub orderChange : ℕ → Order → Change
+orderChange others (AbortTask tag2) = Nothing
+orderChange others (AbortTaskSet lun) = Nothing
+orderChange others (ClearTaskSet lun) = ClearedAttention others
+orderChange others (ClearAca lun) = AcaGoes lun
+orderChange others (UnitReset lun) = Resets (On lun)
+orderChange others TargetReset = Resets Anywhere

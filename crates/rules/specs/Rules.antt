@@ -9,51 +9,13 @@ use Rattle.wire.specs.Fields.{byte, word}
 use Rattle.wire.specs.Messages.{reservedSet}
 use Rattle.wire.specs.Block.{opcode, blockLength, cutShort, noBlock, linked}
 use Rattle.wire.specs.declared.message.Flags.{Flags}
-use Rattle.task.specs.Selections.{named, acaOn}
-use Rattle.table.specs.Tables.{pathAt, unitAt, isAttached, isReset, pickOf, hasRoom, othersOn}
-use Rattle.table.specs.Sound.{ownedBy}
-use Rattle.table.specs.declared.Table.{Table}
-use Rattle.table.specs.declared.Attention.{Attention}
-use Rattle.table.specs.declared.Attention.the-variants as attention
-use Rattle.table.specs.declared.Aca.{Aca}
-use Rattle.table.specs.declared.Aca.the-variants.{Clear, Owned}
+use Rattle.table.specs.Tables.{isReset, isCleared}
 use Rattle.rules.specs.First.{Rule, rule, firstThat}
-use Rattle.rules.specs.declared.rules.Facts.{Facts}
-use Rattle.rules.specs.declared.rules.Lookup.{Lookup}
-use Rattle.rules.specs.declared.rules.SenderChange.the-variants.{Stays, SetMark, ClearMark, ClearMarkAndAttention}
-use Rattle.rules.specs.declared.rules.Ruling.{Ruling}
-use Rattle.rules.specs.declared.rules.Ruling.the-variants.{Refuse, Respond, Report, Invalid, Accept}
-use Rattle.rules.specs.declared.rules.Decision.{Decision}
-
--- ---- what the rules ask of the table, for the sender's place p in the path list
-
-abbrev pub hasAca : Aca → Bool
-hasAca Clear = false
-hasAca (Owned p) = true
-
-abbrev pub isCleared : Attention → Bool
-isCleared attention.Nothing = false
-isCleared attention.Reset = false
-isCleared attention.Cleared = true
-
--- about its task with a tag and about a unit. Who else would lose a task on the unit is asked only with CLEAR TASK SET, the one order that looks at it:
--- a walk over all records for each path, that no other message pays for
-unfoldable pub factsOf : Table → ℕ → ℕ → ℕ → Bool → Facts
-factsOf t p tag lun clears = record {
-  marked = pathAt t p .full;
-  attention = pathAt t p .attention;
-  room = hasRoom t;
-  taken = pickOf t (named p tag) .found;
-  attached = isAttached t lun;
-  aca = hasAca (unitAt t lun .aca);
-  owned = ownedBy (unitAt t lun .aca) p;
-  busy = pickOf t (acaOn lun) .found;
-  others = cond clears (othersOn t lun p) 0;
-}
-
--- and that task itself
-unfoldable pub lookupOf : Table → ℕ → ℕ → ℕ → Bool → Lookup
-lookupOf t p tag lun clears = record { facts = factsOf t p tag lun clears; own = pickOf t (named p tag) }
+use Rattle.rules.specs.declared.facts.Facts.{Facts}
+use Rattle.rules.specs.declared.change.SenderChange.the-variants.{Stays, SetMark, ClearMark, ClearMarkAndAttention}
+use Rattle.rules.specs.declared.command.Ruling.{Ruling}
+use Rattle.rules.specs.declared.command.Ruling.the-variants.{Refuse, Respond, Report, Invalid, Accept}
+use Rattle.rules.specs.declared.command.Decision.{Decision}
 
 -- ---- when a rule applies: f is what was asked of the table, g are the flags of byte 10, m is the message
 

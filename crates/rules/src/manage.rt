@@ -1,14 +1,10 @@
-// Management: what an order ends, which return code it gets, and what it does to the table.
+// Management: what an order ends, which return code it gets, and what it does to paths and units.
 ghost use mathlib.Core.Path.{_≡_};
-ghost use Rattle.rules.specs.Management.{endsOf, tagOf, unitOf, isClearSet, hasUnit, carriedCode, orderCode, orderPaths, orderUnits};
-use crate::rules::Facts;
-use table::Path;
-use table::Unit;
-use task::Kind;
+ghost use Rattle.rules.specs.Management.{endsOf, tagOf, unitOf, isClearSet, hasUnit, carriedCode, orderCode, orderChange};
+use crate::change::Change;
+use crate::facts::Facts;
 use task::select::Place;
 use task::select::Selection;
-use task::select::Sort;
-use task::select::Whose;
 use wire::codes::ReturnCode;
 
 // An order, with the tag or the unit that it names.
@@ -25,32 +21,13 @@ pub enum Order {
 pub fn ends(p: u8, o: Order) -> Selection
     ensures { λ r. ⌜ r ≡ endsOf p o ⌝ }
 {
-    let all = Selection::ALL;
     match o {
-        Order::AbortTask(tag2) => Selection {
-            whose: Whose::Named(p, tag2),
-            ..all
-        },
-        Order::AbortTaskSet(lun) => Selection {
-            whose: Whose::From(p),
-            place: Place::On(lun),
-            ..all
-        },
-        Order::ClearTaskSet(lun) => Selection {
-            place: Place::On(lun),
-            ..all
-        },
-        Order::ClearAca(lun) => Selection {
-            whose: Whose::From(p),
-            place: Place::On(lun),
-            sort: Sort::Just(Kind::Aca),
-            ..all
-        },
-        Order::UnitReset(lun) => Selection {
-            place: Place::On(lun),
-            ..all
-        },
-        Order::TargetReset => all,
+        Order::AbortTask(tag2) => Selection::named(p, tag2),
+        Order::AbortTaskSet(lun) => Selection::from_on(p, lun),
+        Order::ClearTaskSet(lun) => Selection::on_unit(lun),
+        Order::ClearAca(lun) => Selection::aca_from_on(p, lun),
+        Order::UnitReset(lun) => Selection::on_unit(lun),
+        Order::TargetReset => Selection::ALL,
     }
 }
 
@@ -148,30 +125,17 @@ pub fn order_code(f: Facts, m: &[u8], o: Order) -> ReturnCode
     carried_code(f, o)
 }
 
-// The paths after an order: CLEAR TASK SET warns those that lose a task, a reset alarms all. Marks stay.
-pub fn change_paths(paths: [Path; 8], count: u8, others: u8, o: Order) -> [Path; 8]
-    ensures { λ r. ⌜ r ≡ orderPaths paths count others o ⌝ }
+// What an order does besides ending tasks: CLEAR TASK SET gives the other paths that lost one, `others`, cleared attention; CLEAR ACA takes the ACA;
+// a reset takes the ACA and gives reset attention.
+pub fn order_change(others: u8, o: Order) -> Change
+    ensures { λ r. ⌜ r ≡ orderChange others o ⌝ }
 {
     match o {
-        Order::AbortTask(_) => paths,
-        Order::AbortTaskSet(_) => paths,
-        Order::ClearTaskSet(_) => table::paths::give_cleared_attention(paths, others),
-        Order::ClearAca(_) => paths,
-        Order::UnitReset(_) => table::paths::give_reset_attention(paths, count, false),
-        Order::TargetReset => table::paths::give_reset_attention(paths, count, false),
-    }
-}
-
-// The units after an order: CLEAR ACA and a reset take the ACA.
-pub fn change_units(units: [Unit; 8], o: Order) -> [Unit; 8]
-    ensures { λ r. ⌜ r ≡ orderUnits units o ⌝ }
-{
-    match o {
-        Order::AbortTask(_) => units,
-        Order::AbortTaskSet(_) => units,
-        Order::ClearTaskSet(_) => units,
-        Order::ClearAca(lun) => table::paths::clear_aca(units, Place::On(lun)),
-        Order::UnitReset(lun) => table::paths::clear_aca(units, Place::On(lun)),
-        Order::TargetReset => table::paths::clear_aca(units, Place::Anywhere),
+        Order::AbortTask(_) => Change::Nothing,
+        Order::AbortTaskSet(_) => Change::Nothing,
+        Order::ClearTaskSet(_) => Change::ClearedAttention(others),
+        Order::ClearAca(lun) => Change::AcaGoes(lun),
+        Order::UnitReset(lun) => Change::Resets(Place::On(lun)),
+        Order::TargetReset => Change::Resets(Place::Anywhere),
     }
 }

@@ -15,7 +15,7 @@ use lib.ListN.{length, getD, set, replicate}
 use lib.Seq.{set-getD}
 use borrow.Author.Tests.{lt-ltb, le-ltb, le-leb, lt-leb, not-true, not-false}
 use Rattle.task.specs.Index.{first, mapOf, mapAt}
-use Rattle.task.specs.Tasks.{noTask, awaits}
+use Rattle.task.specs.Tasks.{noTask, isRunning, awaits}
 use Rattle.task.specs.Map.{isLive, lowestFree, withBit, withoutBit}
 use Rattle.task.specs.Selections.{picks, picksLive, fromOn, runningAs}
 use Rattle.task.specs.declared.Kind.{Kind}
@@ -24,7 +24,7 @@ use Rattle.task.specs.declared.select.Selection.{Selection}
 use Rattle.task.specs.declared.select.Place.{Place}
 use Rattle.task.specs.declared.select.Place.the-variants.{Anywhere, On}
 use Rattle.task.specs.declared.scan.Pick.{Pick}
-use Rattle.task.proofs.Ways.{cond-below, cond-past, answered-true, answered-false, chosen}
+use Rattle.task.proofs.Ways.{both, cond-below, cond-past, answered-true, answered-false, chosen}
 use Rattle.task.proofs.Places.{lt-or-le, first-before, first-none, mapOf-ext}
 use Rattle.task.proofs.Lists.{mapBelow, mapBelow-ahead, mapBelow-zero, mapBelow-step, mapBelow-put, mapBelow-skip, mapBelow-all}
 use Rattle.task.proofs.Bits.{mapOf-lt}
@@ -222,21 +222,24 @@ module _ (t : Table) {i : ℕ} (failed : Bool) (transferred : ℕ) where
   unfolding finished
   finish-past h = rw (le-ltb i 64 h)
 
-  module _ {b : Bool} (h : i < 64) (e : b ≡ isLive (t .live) i) where
-    pub finish-dead : not b ≡ true → t ≡ finished t i failed transferred
+  module _ {b : Bool} (h : i < 64) (e : b ≡ (isLive (t .live) i && isRunning (taskAt t i .phase))) where
+    pub finish-idle : not b ≡ true → t ≡ finished t i failed transferred
     unfolding finished
-    finish-dead k = rw (lt-ltb i 64 h, ← e, not-true b k)
+    finish-idle k = rw (lt-ltb i 64 h, ← e, not-true b k)
 
     module _ (k : not b ≡ false) {u : Table} (d : u ≡ claimedBy t (taskAt t i) failed) where
       pub finish-stays : taskAt t i .confirm ≡ true → withTasks u (u .live) (set (u .tasks) i (awaits transferred (taskAt t i))) ≡ finished t i failed transferred
       unfolding finished
-      finish-stays c = rw (lt-ltb i 64 h, ← e, not-false b k, d) (chosen _ (sym c) (alter-live (claimedBy t (taskAt t i) failed) (awaits transferred (taskAt t i)) h e k))
+      finish-stays c =
+          let live : true ≡ isLive (t .live) i = sym (both (isLive (t .live) i) _ (sym e ∙ not-false b k) .0) in
+          rw (lt-ltb i 64 h, ← e, not-false b k, d)
+          (chosen _ (sym c) (alter-live (claimedBy t (taskAt t i) failed) (awaits transferred (taskAt t i)) h live refl))
 
       pub finish-ends : {v : Table} {s : Selection} → taskAt t i .confirm ≡ false → v ≡ endedBy u s → s ≡ runningAs (taskAt t i .arrival) → v ≡ finished t i failed transferred
       unfolding finished
       finish-ends c f n = f ∙ rw (lt-ltb i 64 h, ← e, not-false b k, c, d, n)
 
-pub ruleset finish-ways = (claims, claims-nothing, finish-past, finish-dead, finish-stays, finish-ends)
+pub ruleset finish-ways = (claims, claims-nothing, finish-past, finish-idle, finish-stays, finish-ends)
 
 pub reset-all : (t : Table) {l : List path.Path} {u : unit.Unit} {a : Task} → l ≡ resetAttentionIn (t .paths) (t .count) true → u ≡ noUnit → a ≡ noTask
     → record { live = 0; next = t .next; count = t .count; attached = t .attached; paths = l; units = replicate 8 u; tasks = replicate 64 a } ≡ resetOf t
@@ -246,8 +249,8 @@ reset-all t e h k = rw (e, h, k)
 -- ---- the map of the paths that lose a task
 
 module _ (t : Table) (unit sender : ℕ) where
-  pub other-as : {r : Pick} {b : Bool} (p : ℕ) → length (t .tasks) ≡ 64 → r ≡ pickOf t (fromOn p unit) → b ≡ (ltb p (t .count) && (not (eqb p sender) && r .found)) → b ≡ isOtherOn t unit sender p
-  other-as p n k f = f ∙ rw (found-any t (fromOn p unit) k n)
+  pub other-as : {s : Selection} {r : Pick} {b : Bool} (p : ℕ) → length (t .tasks) ≡ 64 → s ≡ fromOn p unit → r ≡ pickOf t s → b ≡ (ltb p (t .count) && (not (eqb p sender) && r .found)) → b ≡ isOtherOn t unit sender p
+  other-as p n s k f = f ∙ rw (found-any t (fromOn p unit) (k ∙ ap (pickOf t) s) n)
 
   pub others-start : 0 ≡ mapOf 0 (isOtherOn t unit sender)
   others-start = sym (mapOf-start (isOtherOn t unit sender))

@@ -9,8 +9,8 @@ use Rattle.task.specs.Index.{some}
 use Rattle.task.specs.Tasks.{isAca, isWaiting}
 use Rattle.task.specs.declared.Task.{Task}
 use Rattle.task.proofs.Ways.{equal, below, past, and-no, and-yes}
-use Rattle.table.specs.Tables.{noUnit, pathAt, unitAt, taskAt, pathOf, bitOf}
-use Rattle.table.specs.Sound.{isNoPath, isNoTask, ownedBy, recordOk, unitOk, acaAt, clashOf}
+use Rattle.table.specs.Tables.{noUnit, pathAt, unitAt, taskAt, ownedBy, acaAt, pathOf, bitOf}
+use Rattle.table.specs.Sound.{isNoPath, isNoTask, recordOk, unitOk, clashOf}
 use Rattle.table.specs.declared.Aca.{Aca}
 use Rattle.table.specs.declared.Aca.the-variants.{Clear, Owned}
 use Rattle.table.specs.declared.Unit as unit

@@ -17,8 +17,8 @@ use Rattle.task.specs.declared.Phase.the-variants as phase
 use Rattle.task.specs.declared.Task.{Task}
 use Rattle.task.proofs.Ways.{either-way, never, both, either}
 use Rattle.task.proofs.Places.{lt-or-le, all-at, all-of, none-at, some-none, first-is}
-use Rattle.table.specs.Tables.{noPath, pathAt, unitAt, taskAt, bitOf, isAttached, isNothing, hasId, placeOf, pathOf}
-use Rattle.table.specs.Sound.{Sound, isNoPath, isNoTask, ownedBy, mayStand, liveOk, acaAt, countOk, pathsDistinct, unusedZero, recordsOk, unitsOk, cannotShareUnit, alike, clashes, soundOf}
+use Rattle.table.specs.Tables.{noPath, pathAt, unitAt, taskAt, bitOf, isAttached, isNothing, ownedBy, acaAt, hasId, placeOf, pathOf}
+use Rattle.table.specs.Sound.{Sound, isNoPath, isNoTask, mayStand, liveOk, countOk, pathsDistinct, unusedZero, recordsOk, unitsOk, cannotShareUnit, alike, clashes, soundOf}
 use Rattle.table.specs.View.{at}
 use Rattle.table.specs.Promises.{CheckIsExact}
 use Rattle.table.specs.declared.Attention.{Attention}

@@ -25,7 +25,7 @@ use Rattle.task.proofs.Bits.{mapOf-lt, live-mapOf}
 use Rattle.task.proofs.Maps.{with-lt}
 use Rattle.task.proofs.Lists.{length-mapAt, getD-mapAt, is-mapAt}
 use Rattle.task.proofs.Selecting.{picks-named, picks-aca-on, picks-running-on}
-use Rattle.table.specs.Tables.{noPath, noUnit, pathAt, unitAt, taskAt, isAttached, anyLive, lastArrival, hasRoom, withTasks, withPaths, withUnits, newTask, accepted, endedBy, alteredAt, markedIn, attentionGoneIn, withResetAttention, resetAttentionIn, isOtherOn, othersOn, clearedAttentionIn, claimedUnit, claimedIn, acaClearedIn, claimedBy, finished, resetOf}
+use Rattle.table.specs.Tables.{noPath, noUnit, pathAt, unitAt, taskAt, isAttached, anyLive, lastArrival, hasRoom, withTasks, withPaths, withUnits, newTask, accepted, endedBy, alteredAt, markedIn, attentionGoneIn, withResetAttention, resetAttentionIn, isOtherOn, othersOn, clearedAttentionIn, claimedUnit, claimedIn, acaClearedIn, claimedBy, runsAt, finished, resetOf}
 use Rattle.table.specs.Setup.{seenBefore, badList, freshPath, freshPaths, pathsOf, freshTable, setupTable}
 use Rattle.table.specs.Sound.{Sound}
 use Rattle.table.specs.View.{at}
@@ -337,11 +337,11 @@ pub finish-keeps : FinishedKeeps
 unfolding finished
 finish-keeps t i failed transferred g =
     let a = taskAt t i in
-    cond-ind Good (ltb i 64 && isLive (t .live) i)
+    cond-ind Good (runsAt t i)
     (λ y.
     let b = both (ltb i 64) _ y in
     let l = ltb-true i 64 (b .0) in
-    let e = at-live t i (b .1) in
+    let e = at-live t i (both (isLive (t .live) i) _ (b .1) .0) in
     let claimed : Good (claimedBy t a failed) =
     cond-ind (λ (us : List unit.Unit). Good (withUnits t us)) failed
     (λ _. claim-keeps t (a .unit) (a .path) g (g .sound .attached i a l e) (g .sound .listed i a l e)) (λ _. g) in

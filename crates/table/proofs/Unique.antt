@@ -1,5 +1,5 @@
 -- The answers are one: each by the law that an equation determines its left side. Assumes nothing.
-use Rattle.task.proofs.Promises.{determined}
+use Rattle.wire.proofs.Unique.{determined}
 use Rattle.table.specs.Unique.{AnswersAreOne}
 
 pub answers-are-one : AnswersAreOne
@@ -8,6 +8,8 @@ answers-are-one = record {
   path-at = λ _ _ _ _. determined;
   unit-at = λ _ _ _ _. determined;
   is-attached = λ _ _ _ _. determined;
+  is-reset = λ _ _ _. determined;
+  is-cleared = λ _ _ _. determined;
   mark = λ _ _ _ _ _. determined;
   drop-attention = λ _ _ _ _. determined;
   give-reset-attention = λ _ _ _ _ _. determined;
@@ -19,7 +21,6 @@ answers-are-one = record {
   accept = λ _ _ _ _ _ _ _ _. determined;
   end = λ _ _ _ _. determined;
   start = λ _ _ _ _. determined;
-  running-as = λ _ _ _. determined;
   restart = λ _ _ _ _ _. determined;
   finish = λ _ _ _ _ _ _. determined;
   reset = λ _ _ _. determined;
@@ -28,6 +29,7 @@ answers-are-one = record {
   zero = λ _ _. determined;
   new = λ _ _ _ _ _. determined;
   is-no-task = λ _ _ _. determined;
+  has-aca = λ _ _ _. determined;
   owned-by = λ _ _ _ _. determined;
   sound = λ _ _ _. determined;
 }

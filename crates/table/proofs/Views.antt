@@ -10,7 +10,7 @@ use lib.ListN.{length, getD, set, length-map, length-set, List·getD-map}
 use lib.Seq.{getD-set-same, getD-set-other, map-set-same}
 use borrow.Author.Tests.{lt-ltb}
 use Rattle.task.specs.Index.{mapAt}
-use Rattle.task.specs.Tasks.{noTask, awaits}
+use Rattle.task.specs.Tasks.{noTask, isRunning, awaits}
 use Rattle.task.specs.Map.{isLive, lowestFree}
 use Rattle.task.specs.Selections.{picks, picksLive, runningAs}
 use Rattle.task.specs.Next.{Stands}
@@ -262,13 +262,13 @@ awaitedAt t i a failed transferred = withUnits (alteredAt t i (awaits transferre
 abbrev pub endedAs : Table → Task → Bool → Table
 endedAs t a failed = withUnits (endedBy t (runningAs (a .arrival))) (claimedBy t a failed .units)
 
-module _ (t : Table) (i : ℕ) {a : Task} (failed : Bool) (transferred : ℕ) (l : i < 64) (e : at t i ≡ some a) where
+module _ (t : Table) (i : ℕ) {a : Task} (failed : Bool) (transferred : ℕ) (l : i < 64) (e : at t i ≡ some a) (r : isRunning (a .phase) ≡ true) where
   pub finished-ways : (P : Table → Type 0) → (a .confirm ≡ true → P (awaitedAt t i a failed transferred))
       → (a .confirm ≡ false → P (endedAs t a failed)) → P (finished t i failed transferred)
   unfolding finished
   finished-ways P f g =
       let v = live-at t i e in
-      rw (lt-ltb i 64 l, v .0, v .1)
+      rw (lt-ltb i 64 l, v .0, v .1, r)
       (cond-ind P (a .confirm) (λ c. rw (altered-units t i (awaits transferred a) (claimedBy t a failed .units)) (f c))
       (λ c. rw (ended-units t (runningAs (a .arrival)) (claimedBy t a failed .units)) (g c)))
 

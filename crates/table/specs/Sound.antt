@@ -4,13 +4,13 @@ use mathlib.Core.Path.{_≡_}
 use mathlib.Core.Bool.{Bool, true, false, cond, not, _||_, _&&_}
 use mathlib.Core.List.{List}
 use mathlib.Core.Option.{none, some}
-use lib.ListN.{length, getD}
+use lib.ListN.{length}
 use lib.Dec.{eqb, ltb, leb}
 use Rattle.task.specs.Index.{all, some as someBelow}
 use Rattle.task.specs.Tasks.{noTask, isAca, isWaiting, isRunning}
 use Rattle.task.specs.Map.{isLive}
 use Rattle.task.specs.declared.Task.{Task}
-use Rattle.table.specs.Tables.{noPath, noUnit, pathAt, unitAt, taskAt, bitOf, isAttached, isNothing, pathOf}
+use Rattle.table.specs.Tables.{noPath, pathAt, unitAt, taskAt, bitOf, isAttached, isNothing, ownedBy, acaAt, pathOf}
 use Rattle.table.specs.View.{at}
 use Rattle.table.specs.declared.Aca.{Aca}
 use Rattle.table.specs.declared.Aca.the-variants.{Clear, Owned}
@@ -66,10 +66,6 @@ isNoTask a =
     eqb (a .arrival) 0 && (eqb (a .transferred) 0 && (eqb (a .offset) 0
     && (eqb (a .tag) 0 && (eqb (a .path) 0 && (eqb (a .unit) 0 && (isAca (a .kind) && (isWaiting (a .phase) && not (a .confirm))))))))
 
-abbrev pub ownedBy : Aca → ℕ → Bool
-ownedBy Clear path = false
-ownedBy (Owned p) path = eqb p path
-
 -- an ACA task only under an ACA of its path
 abbrev pub mayStand : Aca → Task → Bool
 mayStand aca a = cond (isAca (a .kind)) (ownedBy aca (a .path)) true
@@ -79,9 +75,6 @@ liveOk next count attached aca a = ltb (a .path) count && (bitOf attached (a .un
 
 abbrev pub recordOk : ℕ → ℕ → ℕ → ℕ → Aca → ℕ → Task → Bool
 recordOk live next count attached aca i a = cond (isLive live i) (liveOk next count attached aca a) (isNoTask a)
-
-abbrev pub acaAt : List unit.Unit → ℕ → Aca
-acaAt units u = getD units u noUnit .aca
 
 abbrev pub unitOk : ℕ → ℕ → ℕ → unit.Unit → Bool
 unitOk count attached u a = byOwner (a .aca)

@@ -5,7 +5,7 @@ use mathlib.Core.List.{List}
 use lib.ListN.{getD, set, replicate}
 use lib.Dec.{eqb, ltb, leb}
 use Rattle.task.specs.Index.{first, some, mapOf, mapAt}
-use Rattle.task.specs.Tasks.{noTask, acceptedAs, runs, awaits, restarts}
+use Rattle.task.specs.Tasks.{noTask, acceptedAs, isRunning, runs, awaits, restarts}
 use Rattle.task.specs.Map.{isLive, lowestFree, withBit}
 use Rattle.task.specs.Selections.{picks, picksLive, fromOn, runningAs}
 use Rattle.task.specs.Scan.{scan}
@@ -72,6 +72,24 @@ abbrev pub isReset : Attention → Bool
 isReset attention.Nothing = false
 isReset attention.Reset = true
 isReset attention.Cleared = false
+
+abbrev pub isCleared : Attention → Bool
+isCleared attention.Nothing = false
+isCleared attention.Reset = false
+isCleared attention.Cleared = true
+
+-- there is an ACA; it is owned by the path
+abbrev pub hasAca : Aca → Bool
+hasAca Clear = false
+hasAca (Owned p) = true
+
+abbrev pub ownedBy : Aca → ℕ → Bool
+ownedBy Clear path = false
+ownedBy (Owned p) path = eqb p path
+
+-- the ACA of a unit, and none past the end
+abbrev pub acaAt : List unit.Unit → ℕ → Aca
+acaAt units u = getD units u noUnit .aca
 
 -- record i is live and its task is picked; some live task is picked; of those that are, the one that goes next
 abbrev pub picksAt : Table → Selection → ℕ → Bool
@@ -203,10 +221,13 @@ claimedBy t a failed = withUnits t (cond failed (claimedIn (t .units) (a .unit) 
 abbrev pub leftBy : Table → ℕ → Task → ℕ → Table
 leftBy t i a transferred = cond (a .confirm) (alteredAt t i (awaits transferred a)) (endedBy t (runningAs (a .arrival)))
 
--- the device has finished the task in record i; a dead record stays
+-- the task in record i is live and runs
+abbrev pub runsAt : Table → ℕ → Bool
+runsAt t i = ltb i 64 && (isLive (t .live) i && isRunning (taskAt t i .phase))
+
+-- the device has finished the task that runs in record i; a dead record, or one whose task does not run, changes nothing
 unfoldable pub finished : Table → ℕ → Bool → ℕ → Table
-finished t i failed transferred =
-    cond (ltb i 64 && isLive (t .live) i) (leftBy (claimedBy t (taskAt t i) failed) i (taskAt t i) transferred) t
+finished t i failed transferred = cond (runsAt t i) (leftBy (claimedBy t (taskAt t i) failed) i (taskAt t i) transferred) t
 
 -- no task, no mark, no ACA, reset attention on every path; arrival numbers go on
 unfoldable pub resetOf : Table → Table

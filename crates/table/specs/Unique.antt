@@ -2,17 +2,17 @@
 use Prim.Native.Nat.{ℕ}
 use mathlib.Core.Bool.{Bool}
 use mathlib.Core.List.{List}
-use Rattle.task.specs.Promises.{One}
-use Rattle.task.specs.Selections.{runningAs}
+use Rattle.wire.specs.Unique.{One}
 use Rattle.task.specs.declared.Kind.{Kind}
 use Rattle.task.specs.declared.Task.{Task}
 use Rattle.task.specs.declared.select.Selection.{Selection}
 use Rattle.task.specs.declared.select.Place.{Place}
-use Rattle.table.specs.Tables.{zeroTable, pathAt, unitAt, taskAt, isAttached, pathOf, pickOf, hasRoom}
+use Rattle.table.specs.Tables.{zeroTable, pathAt, unitAt, taskAt, isAttached, isReset, isCleared, hasAca, ownedBy, pathOf, pickOf, hasRoom}
 use Rattle.table.specs.Tables.{markedIn, attentionGoneIn, resetAttentionIn, clearedAttentionIn, acaClearedIn, othersOn}
 use Rattle.table.specs.Tables.{accepted, endedBy, started, restarted, finished, resetOf}
 use Rattle.table.specs.Setup.{badList, setupTable}
-use Rattle.table.specs.Sound.{isNoTask, ownedBy, soundOf}
+use Rattle.table.specs.Sound.{isNoTask, soundOf}
+use Rattle.table.specs.declared.Attention.{Attention}
 use Rattle.table.specs.declared.Aca.{Aca}
 use Rattle.table.specs.declared.Path as path
 use Rattle.table.specs.declared.Unit as unit
@@ -23,6 +23,8 @@ pub record AnswersAreOne : Type 0 where
   pub path-at : (t : Table) (p : ℕ) → One (pathAt t p)
   pub unit-at : (t : Table) (unit : ℕ) → One (unitAt t unit)
   pub is-attached : (t : Table) (unit : ℕ) → One (isAttached t unit)
+  pub is-reset : (a : Attention) → One (isReset a)
+  pub is-cleared : (a : Attention) → One (isCleared a)
   pub mark : (paths : List path.Path) (p : ℕ) (full : Bool) → One (markedIn paths p full)
   pub drop-attention : (paths : List path.Path) (p : ℕ) → One (attentionGoneIn paths p)
   pub give-reset-attention : (paths : List path.Path) (count : ℕ) (unmark : Bool) → One (resetAttentionIn paths count unmark)
@@ -34,7 +36,6 @@ pub record AnswersAreOne : Type 0 where
   pub accept : (t : Table) (path tag unit : ℕ) (kind : Kind) (confirm : Bool) → One (accepted t path tag unit kind confirm)
   pub end : (t : Table) (s : Selection) → One (endedBy t s)
   pub start : (t : Table) (i : ℕ) → One (started t i)
-  pub running-as : (arrival : ℕ) → One (runningAs arrival)
   pub restart : (t : Table) (i offset : ℕ) → One (restarted t i offset)
   pub finish : (t : Table) (i : ℕ) (failed : Bool) (transferred : ℕ) → One (finished t i failed transferred)
   pub reset : (t : Table) → One (resetOf t)
@@ -43,5 +44,6 @@ pub record AnswersAreOne : Type 0 where
   pub zero : One zeroTable
   pub new : (ids : List ℕ) (attached first : ℕ) → One (setupTable ids attached first)
   pub is-no-task : (a : Task) → One (isNoTask a)
+  pub has-aca : (aca : Aca) → One (hasAca aca)
   pub owned-by : (aca : Aca) (path : ℕ) → One (ownedBy aca path)
   pub sound : (t : Table) → One (soundOf t)

@@ -1,22 +1,21 @@
 // Tasks: the scan that the table lends its records to, and what is accepted, started, finished, ended and reset.
 ghost use mathlib.Core.Path.{_≡_};
 ghost use Rattle.table.specs.Tables.{taskAt, pickOf, hasRoom, accepted, endedBy, started, restarted, finished, resetOf, othersOn};
-ghost use Rattle.task.specs.Selections.{runningAs};
+ghost use Rattle.task.specs.Map.{isLive};
+ghost use Rattle.task.specs.Tasks.{isRunning};
 ghost use mathlib.Core.Bool.{_&&_, not};
 ghost use lib.Dec.{ltb, eqb};
 ghost use Prim.Native.Nat.{_<_, _+_, _^_};
 use crate::LAST_ARRIVAL;
-use crate::RECORDS;
+use crate::MOST_PATHS;
+use task::RECORDS;
 use crate::Table;
+use crate::UNITS;
 use task::Kind;
 use task::Phase;
 use task::Task;
 use task::scan::Pick;
-use task::select::Number;
-use task::select::Place;
 use task::select::Selection;
-use task::select::Stage;
-use task::select::Whose;
 
 impl Table {
     // Of the live tasks that the selection picks, the one that goes next. The records are lent to the scan.
@@ -131,22 +130,22 @@ impl Table {
         self
     }
 
-    // The device has finished the live task in the record: with CONFIRM it waits to be confirmed, else it ends.
-    // Where it failed, its unit gets ACA owned by its path, unless it has one.
+    // The device has finished the task that runs in the record: with CONFIRM it waits to be confirmed, else it ends. Where it failed,
+    // its unit gets ACA owned by its path, unless it has one. A dead record, or one whose task does not run, changes nothing.
     pub fn finish(mut self, i: usize, failed: bool, transferred: u64) -> Table
         ensures { λ r. ⌜ r ≡ finished self i failed transferred ⌝ }
     {
         if i >= RECORDS {
             return self;
         }
-        if !task::map::is_live(self.live, i) {
+        let a = self.tasks[i];
+        if !runs_in(self.live, i, a) {
             return self;
         }
-        let a = self.tasks[i];
         let confirm = a.confirm;
         if failed {
             let units = self.units;
-            let claimed = crate::paths::claim(units, a.unit, a.path);
+            let claimed = crate::units::claim(units, a.unit, a.path);
             self.units = claimed;
         }
         if confirm {
@@ -158,7 +157,7 @@ impl Table {
             self.tasks[i] = b;
             return self;
         }
-        self.end(running_as(a.arrival))
+        self.end(Selection::running_as(a.arrival))
     }
 
     // Total reset: no task, no mark, no ACA, reset attention on every listed path; arrival numbers go on.
@@ -167,10 +166,10 @@ impl Table {
     {
         let paths = self.paths;
         let reset = crate::paths::give_reset_attention(paths, self.count, true);
-        let unit = crate::paths::no_unit();
-        let units = [unit; 8];
+        let unit = crate::units::no_unit();
+        let units = [unit; UNITS];
         let task = task::no_task();
-        let tasks = [task; 64];
+        let tasks = [task; RECORDS];
         self.live = 0;
         self.paths = reset;
         self.units = units;
@@ -182,16 +181,10 @@ impl Table {
     pub fn others_on(self, unit: u8, sender: u8) -> u8
         ensures { λ r. ⌜ r ≡ othersOn self unit sender ⌝ }
     {
-        let all = Selection::ALL;
         let mut map: u8 = 0;
         let mut p: u8 = 0;
-        while p < 8 {
-            let s = Selection {
-                whose: Whose::From(p),
-                place: Place::On(unit),
-                ..all
-            };
-            let found = self.pick(s);
+        while p < MOST_PATHS {
+            let found = self.pick(Selection::from_on(p, unit));
             if is_other_on(self.count, sender, p, found.found) {
                 map = with_path(map, p);
             }
@@ -201,16 +194,15 @@ impl Table {
     }
 }
 
-// The running task with an arrival number.
-pub fn running_as(arrival: u64) -> Selection
-    ensures { λ r. ⌜ r ≡ runningAs arrival ⌝ }
+// Whether record i is live and its task a runs.
+fn runs_in(live: u64, i: usize, a: Task) -> bool
+    ensures { λ r. ⌜ r ≡ (isLive live i && isRunning (a .phase)) ⌝ }
 {
-    let all = Selection::ALL;
-    Selection {
-        number: Number::Exactly(arrival),
-        stage: Stage::Now(Phase::Running),
-        ..all
+    if task::map::is_live(live, i) {
+        let phase = a.phase;
+        return crate::sound::is_running(phase);
     }
+    false
 }
 
 // Whether the path at p loses a task: it is listed, not the sender's, and has one.

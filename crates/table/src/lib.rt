@@ -3,6 +3,7 @@ pub mod changes;
 pub mod paths;
 pub mod setup;
 pub mod sound;
+pub mod units;
 
 use task::Task;
 
@@ -41,10 +42,11 @@ pub struct Table {
     pub tasks: [Task; 64],
 }
 
-// The table's limits; LAST_ARRIVAL is the last arrival number that a command can take, 2^64 - 2.
-pub const RECORDS: usize = 64;
-
+// The table's limits, beside task::RECORDS; LAST_ARRIVAL is the last arrival number that a command can take, 2^64 - 2.
 pub const PATHS: usize = 8;
+
+// The same as a count of paths, and the places of paths, are kept.
+pub(crate) const MOST_PATHS: u8 = PATHS as u8;
 
 pub const UNITS: usize = 8;
 

@@ -1,17 +1,13 @@
-// Paths and units: what the rules ask of them, and how they change. A bad index changes nothing.
+// Paths: what the rules ask of them, and how they change. A bad index changes nothing.
 ghost use mathlib.Core.Path.{_≡_};
 ghost use Rattle.table.specs.Tables;
-ghost use Rattle.table.specs.Tables.{pathAt, unitAt, hasId, placeOf, pathOf, isAttached, isNothing, isReset, markedIn, attentionGoneIn, withResetAttention, resetAttentionIn, withClearedAttention, clearedAttentionIn, claimedIn, acaClearedIn};
-use crate::Aca;
+ghost use Rattle.table.specs.Tables.{pathAt, hasId, placeOf, pathOf, isNothing, isReset, isCleared, markedIn, attentionGoneIn, withResetAttention, resetAttentionIn, withClearedAttention, clearedAttentionIn};
 use crate::Attention;
 use crate::PATHS;
 use crate::Path;
 use crate::Table;
-use crate::UNITS;
-use crate::Unit;
-use task::select::Place;
 
-// A path and a unit wiped to zero.
+// A path wiped to zero.
 pub(crate) fn no_path() -> Path
     ensures { λ r. ⌜ r ≡ Tables.noPath ⌝ }
 {
@@ -20,12 +16,6 @@ pub(crate) fn no_path() -> Path
         full: false,
         attention: Attention::Nothing,
     }
-}
-
-pub(crate) fn no_unit() -> Unit
-    ensures { λ r. ⌜ r ≡ Tables.noUnit ⌝ }
-{
-    Unit { aca: Aca::Clear }
 }
 
 // Whether bit i of a byte is 1; there is none past 7.
@@ -48,13 +38,24 @@ pub(crate) fn is_nothing(a: Attention) -> bool
     }
 }
 
-fn reset_pending(a: Attention) -> bool
+// Which attention is pending.
+pub fn is_reset(a: Attention) -> bool
     ensures { λ r. ⌜ r ≡ isReset a ⌝ }
 {
     match a {
         Attention::Nothing => false,
         Attention::Reset => true,
         Attention::Cleared => false,
+    }
+}
+
+pub fn is_cleared(a: Attention) -> bool
+    ensures { λ r. ⌜ r ≡ isCleared a ⌝ }
+{
+    match a {
+        Attention::Nothing => false,
+        Attention::Reset => false,
+        Attention::Cleared => true,
     }
 }
 
@@ -80,7 +81,7 @@ fn with_cleared_attention(a: Path) -> Path
     ensures { λ r. ⌜ r ≡ withClearedAttention a ⌝ }
 {
     let pending = a.attention;
-    if reset_pending(pending) {
+    if is_reset(pending) {
         return a;
     }
     Path {
@@ -177,46 +178,6 @@ pub fn give_cleared_attention(mut paths: [Path; 8], others: u8) -> [Path; 8]
     paths
 }
 
-// The unit's ACA is the path's, unless it has one.
-pub(crate) fn claim(mut units: [Unit; 8], unit: u8, path: u8) -> [Unit; 8]
-    ensures { λ r. ⌜ r ≡ claimedIn units unit path ⌝ }
-{
-    let u = unit as usize;
-    if u >= UNITS {
-        return units;
-    }
-    let a = units[u];
-    let aca = a.aca;
-    match aca {
-        Aca::Owned(_) => units,
-        Aca::Clear => {
-            let b = Unit {
-                aca: Aca::Owned(path),
-            };
-            units[u] = b;
-            units
-        }
-    }
-}
-
-// The unit's ACA goes, or that of every unit.
-pub fn clear_aca(mut units: [Unit; 8], place: Place) -> [Unit; 8]
-    ensures { λ r. ⌜ r ≡ acaClearedIn units place ⌝ }
-{
-    let none = no_unit();
-    match place {
-        Place::Anywhere => [none; 8],
-        Place::On(unit) => {
-            let u = unit as usize;
-            if u >= UNITS {
-                return units;
-            }
-            units[u] = none;
-            units
-        }
-    }
-}
-
 impl Table {
     // The place of an id among the listed paths, or 8.
     pub fn path_of(self, id: u32) -> u8
@@ -235,24 +196,5 @@ impl Table {
         }
         let paths = self.paths;
         paths[p]
-    }
-
-    // A unit, and a wiped one past the end.
-    pub fn unit_at(self, unit: u8) -> Unit
-        ensures { λ r. ⌜ r ≡ unitAt self unit ⌝ }
-    {
-        let u = unit as usize;
-        if u >= UNITS {
-            return no_unit();
-        }
-        let units = self.units;
-        units[u]
-    }
-
-    // Whether the unit is attached.
-    pub fn is_attached(self, unit: u8) -> bool
-        ensures { λ r. ⌜ r ≡ isAttached self unit ⌝ }
-    {
-        bit_of(self.attached, unit as usize)
     }
 }

@@ -8,6 +8,8 @@ use crate::Attention;
 use crate::PATHS;
 use crate::Path;
 use crate::Table;
+use crate::UNITS;
+use task::RECORDS;
 
 // Whether id i of the list stands among those before it.
 fn seen_before(ids: &[u32], i: usize) -> bool
@@ -50,7 +52,7 @@ fn listed(ids: &[u32]) -> [Path; 8]
     ensures { λ r. ⌜ r ≡ pathsOf (now (ids .entry)) ⌝ }
 {
     let none = crate::paths::no_path();
-    let mut paths = [none; 8];
+    let mut paths = [none; PATHS];
     let mut i: usize = 0;
     while i < ids.len() {
         let a = Path {
@@ -70,11 +72,11 @@ impl Table {
         ensures { λ r. ⌜ r ≡ zeroTable ⌝ }
     {
         let path = crate::paths::no_path();
-        let unit = crate::paths::no_unit();
+        let unit = crate::units::no_unit();
         let task = task::no_task();
-        let paths = [path; 8];
-        let units = [unit; 8];
-        let tasks = [task; 64];
+        let paths = [path; PATHS];
+        let units = [unit; UNITS];
+        let tasks = [task; RECORDS];
         Table {
             live: 0,
             next: 0,

@@ -1,12 +1,13 @@
 // The soundness check: a small function for each clause of page 01's "Sound means", and the pairwise walk.
 ghost use mathlib.Core.Path.{_≡_};
 ghost use Rattle.task.specs.Tasks.{isAca, isWaiting, isRunning};
-ghost use Rattle.table.specs.Sound.{isNoPath, isNoTask, ownedBy, mayStand, liveOk, recordOk, unitOk, countOk, pathsDistinct, unusedZero, recordsOk, unitsOk, clashOf, soundOf, acaAt, cannotShareUnit};
+ghost use Rattle.table.specs.Sound.{isNoPath, isNoTask, mayStand, liveOk, recordOk, unitOk, countOk, pathsDistinct, unusedZero, recordsOk, unitsOk, clashOf, soundOf, cannotShareUnit};
 ghost use Rattle.table.specs.Sound;
 use crate::Aca;
+use crate::MOST_PATHS;
 use crate::PATHS;
 use crate::Path;
-use crate::RECORDS;
+use task::RECORDS;
 use crate::Table;
 use crate::UNITS;
 use crate::Unit;
@@ -35,7 +36,7 @@ fn is_waiting(p: Phase) -> bool
     }
 }
 
-fn is_running(p: Phase) -> bool
+pub(crate) fn is_running(p: Phase) -> bool
     ensures { λ r. ⌜ r ≡ isRunning p ⌝ }
 {
     match p {
@@ -92,23 +93,13 @@ pub fn is_no_task(a: Task) -> bool
     !a.confirm
 }
 
-// Whether the ACA is owned by the path.
-pub fn owned_by(aca: Aca, path: u8) -> bool
-    ensures { λ r. ⌜ r ≡ ownedBy aca path ⌝ }
-{
-    match aca {
-        Aca::Clear => false,
-        Aca::Owned(p) => p == path,
-    }
-}
-
 // An ACA task only on a unit with ACA, only from its owner.
 fn may_stand(aca: Aca, a: Task) -> bool
     ensures { λ r. ⌜ r ≡ mayStand aca a ⌝ }
 {
     let kind = a.kind;
     if is_aca(kind) {
-        return owned_by(aca, a.path);
+        return crate::units::owned_by(aca, a.path);
     }
     true
 }
@@ -127,18 +118,6 @@ fn live_ok(next: u64, count: u8, attached: u8, aca: Aca, a: Task) -> bool
         return false;
     }
     may_stand(aca, a)
-}
-
-// The ACA of a unit, and none past the end.
-fn aca_at(units: [Unit; 8], unit: u8) -> Aca
-    ensures { λ r. ⌜ r ≡ acaAt units unit ⌝ }
-{
-    let u = unit as usize;
-    if u >= UNITS {
-        return Aca::Clear;
-    }
-    let a = units[u];
-    a.aca
 }
 
 // A unit's ACA only if it is attached, with a listed owner.
@@ -215,7 +194,7 @@ impl Table {
         if self.count == 0 {
             return false;
         }
-        self.count <= 8
+        self.count <= MOST_PATHS
     }
 
     // Every listed path is the first with its id.
@@ -263,7 +242,7 @@ impl Table {
         let mut i: usize = 0;
         while i < RECORDS {
             let a = self.tasks[i];
-            let aca = aca_at(units, a.unit);
+            let aca = crate::units::aca_at(units, a.unit);
             if !record_ok(self.live, self.next, self.count, self.attached, aca, i, a) {
                 return false;
             }

@@ -1,12 +1,8 @@
--- The promises of specs/Promises.antt, and the law that a contract which is an equation determines the answer. Assumes nothing.
-use mathlib.Core.Path.{_≡_, sym, _∙_}
+-- The promises of specs/Promises.antt. Assumes nothing.
+use mathlib.Core.Path.{sym}
 use Rattle.task.specs.Map.{lowestFree, liveCount}
 use Rattle.task.specs.Promises.{CountIsOnes, FreeIsTrailing}
 use Rattle.task.proofs.Bits.{ones-count, trailing-first}
-
--- a contract that is an equation determines the answer
-pub determined : {A : Type 0} {x y said : A} → x ≡ said → y ≡ said → x ≡ y
-determined h l = h ∙ sym l
 
 pub count-is-ones : CountIsOnes
 unfolding liveCount

@@ -1,13 +1,9 @@
 -- What is promised beside the contracts: the live count, a count by places, is the number of ones of the map, and the lowest free place is the number of
--- trailing zeros of the inverted map. Both are proved in proofs/Promises.antt. And the word `One`, in which Unique.antt says that a contract determines its answer.
+-- trailing zeros of the inverted map. Both are proved in proofs/Promises.antt.
 use Prim.Native.Nat.{ℕ, _-_, _^_, _<_}
 use mathlib.Core.Path.{_≡_}
 use lib.Count.{ones, trailingZeros}
 use Rattle.task.specs.Map.{lowestFree, liveCount}
-
--- two answers that are each what the contract says are equal
-abbrev pub One : {A : Type 0} → A → Type 0
-One {A} said = (x y : A) → x ≡ said → y ≡ said → x ≡ y
 
 abbrev pub CountIsOnes : Type 0
 CountIsOnes = (live : ℕ) → live < 2 ^ 64 → liveCount live ≡ ones live

@@ -6,6 +6,9 @@ pub mod map;
 pub mod scan;
 pub mod select;
 
+// The records that a table has, and the bits of the map of live ones.
+pub const RECORDS: usize = 64;
+
 // How a task is queued. The first is the zero of a wiped record, here and in Phase.
 pub enum Kind {
     Aca,

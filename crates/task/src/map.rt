@@ -2,6 +2,7 @@
 ghost use mathlib.Core.Path.{_≡_};
 ghost use Prim.Native.Nat.{_<_, _^_};
 ghost use Rattle.task.specs.Map.{isLive, lowestFree, liveCount, withBit, withoutBit};
+use crate::RECORDS;
 
 // The lowest place whose bit is 0, or 64.
 pub fn lowest_free(live: u64) -> usize
@@ -29,7 +30,7 @@ fn bit(i: usize) -> u64
 pub fn is_live(live: u64, i: usize) -> bool
     ensures { λ r. ⌜ r ≡ isLive live i ⌝ }
 {
-    if i >= 64 {
+    if i >= RECORDS {
         return false;
     }
     (live >> i) % 2 == 1
@@ -39,7 +40,7 @@ pub fn is_live(live: u64, i: usize) -> bool
 pub fn with_bit(live: u64, i: usize) -> u64
     ensures { λ r. ⌜ r ≡ withBit live i ⌝ }
 {
-    if i >= 64 {
+    if i >= RECORDS {
         return live;
     }
     live | bit(i)
@@ -49,7 +50,7 @@ pub fn with_bit(live: u64, i: usize) -> u64
 pub fn without_bit(live: u64, i: usize) -> u64
     ensures { λ r. ⌜ r ≡ withoutBit live i ⌝ }
 {
-    if i >= 64 {
+    if i >= RECORDS {
         return live;
     }
     live & !bit(i)

@@ -1,5 +1,6 @@
 // A selection names tasks: by path, tag, unit, kind, arrival number and phase, each asked or not.
 ghost use mathlib.Core.Path.{_≡_};
+ghost use Rattle.task.specs.Selections;
 ghost use Rattle.task.specs.Selections.{numberAsked, whoseAsked, placeAsked, sortAsked, stageAsked, picks, picksLive};
 use crate::Kind;
 use crate::Phase;
@@ -40,6 +41,7 @@ pub struct Selection {
     pub stage: Stage,
 }
 
+// The selections that the rules speak of. A path is its place in the path list.
 impl Selection {
     // Every task: what the others narrow.
     pub const ALL: Selection = Selection {
@@ -49,6 +51,122 @@ impl Selection {
         sort: Sort::AnyKind,
         stage: Stage::AnyPhase,
     };
+
+    // The task of a path with a tag, on any unit.
+    pub fn named(path: u8, tag: u16) -> Selection
+        ensures { λ r. ⌜ r ≡ Selections.named path tag ⌝ }
+    {
+        let all = Selection::ALL;
+        Selection {
+            whose: Whose::Named(path, tag),
+            ..all
+        }
+    }
+
+    // The same with an arrival number.
+    pub fn numbered_as(arrival: u64, path: u8, tag: u16) -> Selection
+        ensures { λ r. ⌜ r ≡ Selections.numberedAs arrival path tag ⌝ }
+    {
+        let all = Selection::ALL;
+        Selection {
+            number: Number::Exactly(arrival),
+            whose: Whose::Named(path, tag),
+            ..all
+        }
+    }
+
+    // All tasks on a unit, and those of one path there.
+    pub fn on_unit(unit: u8) -> Selection
+        ensures { λ r. ⌜ r ≡ Selections.onUnit unit ⌝ }
+    {
+        let all = Selection::ALL;
+        Selection {
+            place: Place::On(unit),
+            ..all
+        }
+    }
+
+    pub fn from_on(path: u8, unit: u8) -> Selection
+        ensures { λ r. ⌜ r ≡ Selections.fromOn path unit ⌝ }
+    {
+        let all = Selection::ALL;
+        Selection {
+            whose: Whose::From(path),
+            place: Place::On(unit),
+            ..all
+        }
+    }
+
+    // The ACA task on a unit, and that of one path there.
+    pub fn aca_on(unit: u8) -> Selection
+        ensures { λ r. ⌜ r ≡ Selections.acaOn unit ⌝ }
+    {
+        let all = Selection::ALL;
+        Selection {
+            place: Place::On(unit),
+            sort: Sort::Just(Kind::Aca),
+            ..all
+        }
+    }
+
+    pub fn aca_from_on(path: u8, unit: u8) -> Selection
+        ensures { λ r. ⌜ r ≡ Selections.acaFromOn path unit ⌝ }
+    {
+        let all = Selection::ALL;
+        Selection {
+            whose: Whose::From(path),
+            place: Place::On(unit),
+            sort: Sort::Just(Kind::Aca),
+            ..all
+        }
+    }
+
+    // What runs on a unit, what waits there, and the ACA task that waits there.
+    pub fn running_on(unit: u8) -> Selection
+        ensures { λ r. ⌜ r ≡ Selections.runningOn unit ⌝ }
+    {
+        let all = Selection::ALL;
+        Selection {
+            place: Place::On(unit),
+            stage: Stage::Now(Phase::Running),
+            ..all
+        }
+    }
+
+    pub fn waiting_on(unit: u8) -> Selection
+        ensures { λ r. ⌜ r ≡ Selections.waitingOn unit ⌝ }
+    {
+        let all = Selection::ALL;
+        Selection {
+            place: Place::On(unit),
+            stage: Stage::Now(Phase::Waiting),
+            ..all
+        }
+    }
+
+    pub fn aca_waiting_on(unit: u8) -> Selection
+        ensures { λ r. ⌜ r ≡ Selections.acaWaitingOn unit ⌝ }
+    {
+        let all = Selection::ALL;
+        Selection {
+            place: Place::On(unit),
+            sort: Sort::Just(Kind::Aca),
+            stage: Stage::Now(Phase::Waiting),
+            ..all
+        }
+    }
+
+    // The running task with an arrival number.
+    pub fn running_as(arrival: u64) -> Selection
+        ensures { λ r. ⌜ r ≡ Selections.runningAs arrival ⌝ }
+    {
+        let all = Selection::ALL;
+        Selection {
+            number: Number::Exactly(arrival),
+            stage: Stage::Now(Phase::Running),
+            ..all
+        }
+    }
 }
 
 fn number_asked(n: Number, arrival: u64) -> bool

@@ -2,7 +2,7 @@
 use Prim.Native.Nat.{ℕ}
 use mathlib.Core.Path.{_≡_}
 use mathlib.Core.List.{List}
-use Rattle.task.specs.Promises.{One}
+use Rattle.wire.specs.Unique.{One}
 use Rattle.transcript.specs.Lines.{Handed}
 use Rattle.transcript.specs.Playing.{opened, Advances, lastLine}
 use Rattle.transcript.specs.declared.play.Player.{Player}

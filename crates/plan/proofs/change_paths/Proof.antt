@@ -15,8 +15,17 @@ change-sender-requires c κs = search needs
 enum-known-c-2 : tie.Need-enum-known-c-2
 enum-known-c-2 c = search needs
 
-change-paths-requires : tie.Need-change-paths-requires
-change-paths-requires c κs = search needs
+give-cleared-attention-requires : tie.Need-give-cleared-attention-requires
+give-cleared-attention-requires c κs = search needs
+
+enum-told-2 : tie.Need-enum-told-2
+enum-told-2 c = search needs
+
+enum-told-3 : tie.Need-enum-told-3
+enum-told-3 c = search needs
+
+give-reset-attention-requires : tie.Need-give-reset-attention-requires
+give-reset-attention-requires c κs = search needs
 
 returns : tie.Need-returns
 returns c = search needs
@@ -27,6 +36,12 @@ returns-2 c = cc
 returns-3 : tie.Need-returns-3
 returns-3 c = cc
 
+returns-4 : tie.Need-returns-4
+returns-4 c = search needs
+
+returns-5 : tie.Need-returns-5
+returns-5 c = cc
+
 pub change-paths-spec : {M : Type 1} → statement M
 change-paths-spec =
     tie.close
@@ -35,7 +50,12 @@ change-paths-spec =
     enum-known-c
     change-sender-requires
     enum-known-c-2
-    change-paths-requires
+    give-cleared-attention-requires
+    enum-told-2
+    enum-told-3
+    give-reset-attention-requires
     returns
     returns-2
-    returns-3)
+    returns-3
+    returns-4
+    returns-5)

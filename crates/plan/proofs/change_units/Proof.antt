@@ -9,11 +9,20 @@ enum-told c = search needs
 enum-told-2 : tie.Need-enum-told-2
 enum-told-2 c = search needs
 
+enum-told-3 : tie.Need-enum-told-3
+enum-told-3 c = search needs
+
 enum-known-c : tie.Need-enum-known-c
 enum-known-c c = search needs
 
-change-units-requires : tie.Need-change-units-requires
-change-units-requires c κs = search needs
+clear-aca-requires : tie.Need-clear-aca-requires
+clear-aca-requires c κs = search needs
+
+enum-known-c-2 : tie.Need-enum-known-c-2
+enum-known-c-2 c = search needs
+
+clear-aca-requires-2 : tie.Need-clear-aca-requires-2
+clear-aca-requires-2 c κs = search needs
 
 returns : tie.Need-returns
 returns c = search needs
@@ -22,9 +31,27 @@ returns-2 : tie.Need-returns-2
 returns-2 c = search needs
 
 returns-3 : tie.Need-returns-3
-returns-3 c = cc
+returns-3 c = search needs
+
+returns-4 : tie.Need-returns-4
+returns-4 c = cc
+
+returns-5 : tie.Need-returns-5
+returns-5 c = cc
 
 pub change-units-spec : {M : Type 1} → statement M
 change-units-spec =
     tie.close
-    (tie.spec enum-told enum-told-2 enum-known-c change-units-requires returns returns-2 returns-3)
+    (tie.spec
+    enum-told
+    enum-told-2
+    enum-told-3
+    enum-known-c
+    clear-aca-requires
+    enum-known-c-2
+    clear-aca-requires-2
+    returns
+    returns-2
+    returns-3
+    returns-4
+    returns-5)

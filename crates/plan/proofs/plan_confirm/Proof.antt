@@ -22,8 +22,8 @@ refuse-requires c κs = search needs
 returns-2 : tie.Need-returns-2
 returns-2 c = search confirm-cases
 
-numbered-requires : tie.Need-numbered-requires
-numbered-requires c κs = search needs
+numbered-as-requires : tie.Need-numbered-as-requires
+numbered-as-requires c κs = search needs
 
 returns-3 : tie.Need-returns-3
 returns-3 c = search confirm-cases
@@ -47,7 +47,7 @@ plan-confirm-spec =
     is-awaited-requires
     refuse-requires
     returns-2
-    numbered-requires
+    numbered-as-requires
     returns-3
     tell-requires-2
     returns-4

@@ -6,18 +6,34 @@ use Rattle.rules.proofs.manage.ends.Tie as tie
 enum-known-o : tie.Need-enum-known-o
 enum-known-o c = search needs
 
+named-requires : tie.Need-named-requires
+named-requires c κs = search needs
+
 enum-known-o-2 : tie.Need-enum-known-o-2
 enum-known-o-2 c = search needs
+
+from-on-requires : tie.Need-from-on-requires
+from-on-requires c κs = search needs
 
 enum-known-o-3 : tie.Need-enum-known-o-3
 enum-known-o-3 c = search needs
 
+on-unit-requires : tie.Need-on-unit-requires
+on-unit-requires c κs = search needs
+
 enum-known-o-4 : tie.Need-enum-known-o-4
 enum-known-o-4 c = search needs
+
+aca-from-on-requires : tie.Need-aca-from-on-requires
+aca-from-on-requires c κs = search needs
 
 enum-known-o-5 : tie.Need-enum-known-o-5
 enum-known-o-5 c = search needs
 
+on-unit-requires-2 : tie.Need-on-unit-requires-2
+on-unit-requires-2 c κs = search needs
+
+-- /work/main/target/rlib/task.rlib/interface/lang/src/select.rt:11:50
 enum-told : tie.Need-enum-told
 enum-told c = search needs
 
@@ -44,10 +60,15 @@ ends-spec =
     tie.close
     (tie.spec
     enum-known-o
+    named-requires
     enum-known-o-2
+    from-on-requires
     enum-known-o-3
+    on-unit-requires
     enum-known-o-4
+    aca-from-on-requires
     enum-known-o-5
+    on-unit-requires-2
     enum-told
     returns
     returns-2

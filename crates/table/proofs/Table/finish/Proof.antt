@@ -1,24 +1,25 @@
--- `Table::finish` meets its contract: no such record, a dead one, a task to be confirmed, one that ends. Assumes nothing.
+-- `Table::finish` meets its contract: no such record, none that runs there, a task to be confirmed, one that ends. Assumes nothing.
 use mathlib.Core.Logic.{⊎-elim}
 use borrow.Author.Needs.{needs}
-use Rattle.table.proofs.Changing.{finish-ways}
+use Rattle.table.specs.Tables.{taskAt}
+use Rattle.table.proofs.Changing.{claims, claims-nothing, finish-stays, finish-ways}
 use Rattle.table.proofs.Table.finish.Statement.{statement}
 use Rattle.table.proofs.Table.finish.Tie as tie
 
 returns : tie.Need-returns
 returns c = search finish-ways
 
-is-live-requires : tie.Need-is-live-requires
-is-live-requires c κs = search needs
-
-returns-2 : tie.Need-returns-2
-returns-2 c = search finish-ways
-
 mul-a : tie.Need-mul-a
 mul-a c = search needs
 
 element-copy-out-a : tie.Need-element-copy-out-a
 element-copy-out-a c = search needs
+
+runs-in-requires : tie.Need-runs-in-requires
+runs-in-requires c κs = search needs
+
+returns-2 : tie.Need-returns-2
+returns-2 c = search finish-ways
 
 claim-requires : tie.Need-claim-requires
 claim-requires c κs = search needs
@@ -30,7 +31,17 @@ element-set-from-b : tie.Need-element-set-from-b
 element-set-from-b c = search needs
 
 returns-3 : tie.Need-returns-3
-returns-3 c = ⊎-elim (λ w. search (needs, finish-ways)) (λ w. search (needs, finish-ways)) (c .before .if3 .came)
+returns-3 c =
+    let d = c .before .before in
+    let k = d .if2 .left in
+    let e = d .before .runs-in .ensures in
+    let h = d .before .before .before .if1 .left in
+    let args = d .before .before .before .before .args in
+    let a = taskAt (args .t1) (args .i) in
+    ⊎-elim
+    (λ w. finish-stays _ _ _ h e k (claims _ a (w .3) (w .2 .ensures) (w .0 .taken)) (c .if4 .taken))
+    (λ w. finish-stays _ _ _ h e k (claims-nothing _ a (w .1) (w .0 .left)) (c .if4 .taken))
+    (c .before .if3 .came)
 
 running-as-requires : tie.Need-running-as-requires
 running-as-requires c κs = search needs
@@ -46,10 +57,10 @@ finish-spec =
     tie.close
     (tie.spec
     returns
-    is-live-requires
-    returns-2
     mul-a
     element-copy-out-a
+    runs-in-requires
+    returns-2
     claim-requires
     mul-b
     element-set-from-b

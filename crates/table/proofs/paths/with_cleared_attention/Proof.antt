@@ -3,14 +3,14 @@ use borrow.Author.Needs.{needs}
 use Rattle.table.proofs.paths.with_cleared_attention.Statement.{statement}
 use Rattle.table.proofs.paths.with_cleared_attention.Tie as tie
 
-reset-pending-requires : tie.Need-reset-pending-requires
-reset-pending-requires c κs = search needs
+is-reset-requires : tie.Need-is-reset-requires
+is-reset-requires c κs = search needs
 
 returns : tie.Need-returns
 returns c = search needs
 
 returns-2 : tie.Need-returns-2
-returns-2 c = rw (← c .before .reset-pending .ensures, c .if1 .left)
+returns-2 c = rw (← c .before .is-reset .ensures, c .if1 .left)
 
 pub with-cleared-attention-spec : {M : Type 1} → statement M
-with-cleared-attention-spec = tie.close (tie.spec reset-pending-requires returns returns-2)
+with-cleared-attention-spec = tie.close (tie.spec is-reset-requires returns returns-2)

@@ -1,0 +1,81 @@
+-- `command::by_unit` meets its contract. Assumes nothing.
+use borrow.Author.Needs.{needs}
+use Rattle.rules.specs.Rules.{unitRules}
+use Rattle.rules.proofs.Cases.{first-cases}
+use Rattle.rules.proofs.command.by_unit.Statement.{statement}
+use Rattle.rules.proofs.command.by_unit.Tie as tie
+
+check-requires : tie.Need-check-requires
+check-requires c κs = search needs
+
+returns : tie.Need-returns
+unfolding unitRules
+returns c = search first-cases depth 20
+
+kept-out-by-aca-requires : tie.Need-kept-out-by-aca-requires
+kept-out-by-aca-requires c κs = search needs
+
+report-requires : tie.Need-report-requires
+report-requires c κs = search needs
+
+returns-2 : tie.Need-returns-2
+unfolding unitRules
+returns-2 c = search first-cases depth 20
+
+aca-kind-without-aca-requires : tie.Need-aca-kind-without-aca-requires
+aca-kind-without-aca-requires c κs = search needs
+
+check-requires-2 : tie.Need-check-requires-2
+check-requires-2 c κs = search needs
+
+returns-3 : tie.Need-returns-3
+unfolding unitRules
+returns-3 c = search first-cases depth 20
+
+reset-to-report-requires : tie.Need-reset-to-report-requires
+reset-to-report-requires c κs = search needs
+
+check-requires-3 : tie.Need-check-requires-3
+check-requires-3 c κs = search needs
+
+returns-4 : tie.Need-returns-4
+unfolding unitRules
+returns-4 c = search first-cases depth 20
+
+cleared-to-report-requires : tie.Need-cleared-to-report-requires
+cleared-to-report-requires c κs = search needs
+
+check-requires-4 : tie.Need-check-requires-4
+check-requires-4 c κs = search needs
+
+returns-5 : tie.Need-returns-5
+unfolding unitRules
+returns-5 c = search first-cases depth 20
+
+by-block-requires : tie.Need-by-block-requires
+by-block-requires c κs = search needs
+
+returns-6 : tie.Need-returns-6
+unfolding unitRules
+returns-6 c = search first-cases depth 20
+
+pub by-unit-spec : {M : Type 1} → statement M
+by-unit-spec =
+    tie.close
+    (tie.spec
+    check-requires
+    returns
+    kept-out-by-aca-requires
+    report-requires
+    returns-2
+    aca-kind-without-aca-requires
+    check-requires-2
+    returns-3
+    reset-to-report-requires
+    check-requires-3
+    returns-4
+    cleared-to-report-requires
+    check-requires-4
+    returns-5
+    by-block-requires
+    returns-6)
