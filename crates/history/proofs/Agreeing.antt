@@ -1,4 +1,4 @@
--- A ledger and a table that are tied agree, as demand 3 asks. Assumes nothing.
+-- A ledger and a table that match agree, as demand 3 asks. Assumes nothing.
 use Prim.Native.Nat.{ℕ, suc, _+_, _-_, _<_, _≤_}
 use mathlib.Core.Path.{_≡_, refl, sym, ap, ap₂, _∙_}
 use mathlib.Core.Bool.{Bool, true, false, cond, _&&_}
@@ -26,7 +26,7 @@ use Rattle.history.specs.Demand.{accountedFor, Agrees}
 use Rattle.history.proofs.Totals.{total-ext, total-le, total-add, total-at, total-two, total-find, weight-at, weight-find}
 use Rattle.history.proofs.Fates.{effect-ways}
 use Rattle.history.proofs.Traces.{came-in, caused-in, entered-in}
-use Rattle.history.proofs.Kept.{Tied, openWeight, hasNumber, extra, added, one-true, noted-total}
+use Rattle.history.proofs.Kept.{Matched, openWeight, hasNumber, extra, added, one-true, noted-total}
 
 -- ---- two tasks, field by field
 
@@ -173,7 +173,7 @@ cond-le : (b : Bool) (n : ℕ) → cond b n 0 ≤ n
 cond-le true n = omega arith
 cond-le false n = omega arith
 
-module _ (ids : List ℕ) (h : List Told) (t : Table) (T : Tied ids (ledger ids h) t) where
+module _ (ids : List ℕ) (h : List Told) (t : Table) (T : Matched (ledger ids h) t) where
   abbrev l : List Entry
   l = ledger ids h
 
@@ -228,7 +228,7 @@ module _ (ids : List ℕ) (h : List Told) (t : Table) (T : Tied ids (ledger ids 
         let r = total-find (openWeight f) l (omega (arith, weight-at f t i a below here, T .same f, ap one (same-refl a))) in
         let o = open-true (isOpen (r .1)) (sameTask (r .1 .task) a) (r .3) in
         (r .0, r .1, r .2, o .0, same-eq (r .1 .task) a (o .1));
-    one-record = T .good .sound .one-arrival;
+    one-record = T .one-arrival;
     one-entry =
         λ k j e f en fn q.
         elim (lt-or-le k j) [
@@ -236,7 +236,7 @@ module _ (ids : List ℕ) (h : List Told) (t : Table) (T : Tied ids (ledger ids 
           | inr past ↦ elim (lt-or-le j k) [ inl below ↦ absurd (apart j k f e fn en (sym q) below) | inr under ↦ omega arith ]
         ];
     live-count =
-        ones-are-live t (T .good .shaped) ∙ sym (T .same (λ a. 1)) ∙ total-ext (openWeight (λ a. 1)) (λ e. one (isOpen e)) (λ e. open-one (isOpen e)) l;
+        ones-are-live t (T .shaped) ∙ sym (T .same (λ a. 1)) ∙ total-ext (openWeight (λ a. 1)) (λ e. one (isOpen e)) (λ e. open-one (isOpen e)) l;
     once = λ k e en. omega (arith, total-at extra l k e en, T .single);
     came = came-in ids h;
     caused = caused-in ids h;

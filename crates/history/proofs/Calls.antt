@@ -15,14 +15,14 @@ use Rattle.wire.specs.declared.codes.Refusal.{Refusal}
 use Rattle.wire.specs.declared.codes.StatusByte.{StatusByte}
 use Rattle.wire.specs.declared.codes.Sense.{Sense}
 use Rattle.wire.specs.declared.message.Flags.{Flags}
-use Rattle.task.specs.Tasks.{runs, awaits, restarts}
+use Rattle.task.specs.Tasks.{isRunning, runs, awaits, restarts}
 use Rattle.task.specs.Selections.{picks, everyTask, named, numberedAs, runningAs}
 use Rattle.task.specs.declared.Kind.{Kind}
 use Rattle.task.specs.declared.Task.{Task}
 use Rattle.task.specs.declared.select.Selection.{Selection}
 use Rattle.task.proofs.Ways.{either-way, never, both, cond-ind}
 use Rattle.task.proofs.Places.{first-picks, first-before, first-is}
-use Rattle.task.proofs.Selecting.{meets, picks-every}
+use Rattle.task.proofs.Selecting.{meets, running-number, picks-every}
 use Rattle.table.specs.Tables.{pathAt, hasId, placeOf, pathOf, hasRoom, pickOf, newTask, accepted, endedBy, alteredAt, started, restarted, finished, resetOf, withPaths, withUnits}
 use Rattle.table.specs.Sound.{Shaped}
 use Rattle.table.specs.View.{at, weightAt, weight}
@@ -32,23 +32,23 @@ use Rattle.table.specs.declared.Unit as unit
 use Rattle.table.specs.declared.Table.{Table}
 use Rattle.table.proofs.Views.{OnlyTasks, Found, not-both, live-at, idsOf, ids-at, ids-length, ids-marked, ids-attention-gone, ids-reset-attention, ids-cleared-attention, reset-ids, accepted-put, accepted-only, ended-only, ended-next, ended-paths, ended-units, altered-only, altered-next, finished-ways, pick-at}
 use Rattle.table.proofs.Weights.{weight-same, accept-weighs, end-weighs, reset-weighs}
-use Rattle.rules.specs.Management.{endsOf, orderCode, orderPaths}
-use Rattle.rules.specs.Rules.{factsOf, lookupOf, deciding}
+use Rattle.rules.specs.Management.{endsOf, orderCode, orderChange}
+use Rattle.rules.specs.Facts.{factsOf, lookupOf}
+use Rattle.rules.specs.Rules.{deciding}
+use Rattle.rules.specs.declared.change.Change.{Change}
+use Rattle.rules.specs.declared.change.Change.the-variants as change
 use Rattle.rules.specs.declared.facts.Facts.{Facts}
 use Rattle.rules.specs.declared.change.SenderChange.{SenderChange}
 use Rattle.rules.specs.declared.change.SenderChange.the-variants.{Stays, SetMark, ClearMark, ClearMarkAndAttention}
 use Rattle.rules.specs.declared.command.Ruling.{Ruling}
 use Rattle.rules.specs.declared.command.Ruling.the-variants.{Refuse, Respond, Report, Invalid, Accept}
 use Rattle.rules.specs.declared.manage.Order.{Order}
-use Rattle.rules.specs.declared.manage.Order.the-variants.{AbortTask, AbortTaskSet, ClearTaskSet, ClearAca, UnitReset, TargetReset}
 use Rattle.plan.specs.Plans.{askedOf, kindOf, ruled, orderPlan, isAwaited, confirmPlan, senderAfter, pathsAfter, unitsAfter}
 use Rattle.engine.specs.Calls.{refused, withParts, withRecords, carriedOut, planAt, messageOf, choiceOn, startOf, finishOf, totalResetOf}
 use Rattle.plan.specs.declared.Request.{Request}
 use Rattle.plan.specs.declared.Request.the-variants.{Command, Manage, Confirm}
 use Rattle.plan.specs.declared.Asked.{Asked}
 use Rattle.plan.specs.declared.Asked.the-variants.{By, Unread}
-use Rattle.plan.specs.declared.Change.{Change}
-use Rattle.plan.specs.declared.Change.the-variants as change
 use Rattle.plan.specs.declared.Plan.{Plan}
 use Rattle.plan.specs.declared.Answer.the-variants as answer
 use Rattle.engine.specs.declared.Outcome.{Outcome}
@@ -68,18 +68,12 @@ ids-sender l p SetMark = ids-marked l p true
 ids-sender l p ClearMark = ids-marked l p false
 ids-sender l p ClearMarkAndAttention = ids-attention-gone _ p ∙ ids-marked l p false
 
-ids-order : (l : List path.Path) (count others : ℕ) (o : Order) → idsOf (orderPaths l count others o) ≡ idsOf l
-ids-order l count others (AbortTask tag2) = refl
-ids-order l count others (AbortTaskSet lun) = refl
-ids-order l count others (ClearTaskSet lun) = ids-cleared-attention l others
-ids-order l count others (ClearAca lun) = refl
-ids-order l count others (UnitReset lun) = ids-reset-attention l count false
-ids-order l count others TargetReset = ids-reset-attention l count false
-
 ids-after : (l : List path.Path) (count : ℕ) (c : Change) → idsOf (pathsAfter l count c) ≡ idsOf l
 ids-after l count change.Nothing = refl
 ids-after l count (change.OfSender p sender) = ids-sender l p sender
-ids-after l count (change.ByOrder others o) = ids-order l count others o
+ids-after l count (change.ClearedAttention others) = ids-cleared-attention l others
+ids-after l count (change.AcaGoes unit) = refl
+ids-after l count (change.Resets place) = ids-reset-attention l count false
 
 -- ---- what each effect is sure of
 
@@ -220,24 +214,25 @@ module _ (t : Table) (g : Good t) where
   unfolding fateOf
   done-picked s how sure = done-ended t (Ends s how) s how (g .shaped) refl (λ _ _ _ _. refl) sure
 
-  done-by-order : (others p : ℕ) (o : Order) → Done (Ends (endsOf p o) (byOrder o)) t (endedBy (withParts t (change.ByOrder others o)) (endsOf p o))
+  done-by-order : (others p : ℕ) (o : Order) → Done (Ends (endsOf p o) (byOrder o)) t (endedBy (withParts t (orderChange others o)) (endsOf p o))
   done-by-order others p o =
-      let ps : List path.Path = pathsAfter (t .paths) (t .count) (change.ByOrder others o) in
-      let us : List unit.Unit = unitsAfter (t .units) (change.ByOrder others o) in
+      let ps : List path.Path = pathsAfter (t .paths) (t .count) (orderChange others o) in
+      let us : List unit.Unit = unitsAfter (t .units) (orderChange others o) in
       let s : Selection = endsOf p o in
       let turned : endedBy (withPaths (withUnits t us) ps) s ≡ withPaths (withUnits (endedBy t s) us) ps =
       ended-paths (withUnits t us) s ps ∙ ap (λ (x : Table). withPaths x ps) (ended-units t s us) in
       let kept : idsOf ps ≡ idsOf (endedBy t s .paths) =
-      ids-after (t .paths) (t .count) (change.ByOrder others o) ∙ ap (λ (x : Table). idsOf (x .paths)) (sym (ended-only t s .rest)) in
+      ids-after (t .paths) (t .count) (orderChange others o) ∙ ap (λ (x : Table). idsOf (x .paths)) (sym (ended-only t s .rest)) in
       subst (Done (Ends s (byOrder o)) t) (sym turned) (done-beside (Ends s (byOrder o)) t (endedBy t s) ps us kept (done-picked s (byOrder o) (sure-ends t s (byOrder o) refl)))
 
-  done-ordered : (f : Facts) (p tag : ℕ) (m : List ℕ) (o : Order) → Done (orderEffect p o (orderPlan f p tag m o .answer)) t (carriedOut t (orderPlan f p tag m o))
+  done-ordered : (f : Facts) (others p tag : ℕ) (m : List ℕ) (o : Order)
+      → Done (orderEffect p o (orderPlan f others p tag m o .answer)) t (carriedOut t (orderPlan f others p tag m o))
   unfolding orderPlan carriedOut withRecords
-  done-ordered f p tag m o =
+  done-ordered f others p tag m o =
       cond-ind (λ (pl : Plan). Done (orderEffect p o (pl .answer)) t (carriedOut t pl)) (eqb (orderCode f m o .0) (Paper.done .0))
       (λ e.
-      subst (λ (b : Bool). Done (cond b (Ends (endsOf p o) (byOrder o)) Nothing) t (endedBy (withParts t (change.ByOrder (f .others) o)) (endsOf p o))) (sym e)
-      (done-by-order (f .others) p o))
+      subst (λ (b : Bool). Done (cond b (Ends (endsOf p o) (byOrder o)) Nothing) t (endedBy (withParts t (orderChange others o)) (endsOf p o))) (sym e)
+      (done-by-order others p o))
       (λ e. subst (λ (b : Bool). Done (cond b (Ends (endsOf p o) (byOrder o)) Nothing) t t) (sym e) (done-nothing t))
 
   -- ---- a confirmation
@@ -262,12 +257,12 @@ module _ (t : Table) (g : Good t) where
         (λ c other. rw (ne-eqb (c .arrival) (a .arrival) other)) (sure-restarts t own offset))
 
   done-confirm : (p tag : ℕ) (m : List ℕ) (offset : ℕ) (complete : Bool)
-      → let pl : Plan = confirmPlan (pickOf t (named p tag)) p tag m offset complete in Done (confirmEffect p tag offset (pl .answer)) t (carriedOut t pl)
+      → let pl : Plan = confirmPlan (pickOf t (named p tag)) p tag m offset complete in Done (confirmEffect p tag offset complete (pl .answer)) t (carriedOut t pl)
   unfolding carriedOut withRecords
   done-confirm p tag m offset complete =
       let found : isAwaited (pickOf t (named p tag)) ≡ true → Found t (named p tag) _ _ = λ w. pick-at t (named p tag) (g .shaped) (both _ _ w .0) in
-      each-confirm (λ (pl : Plan). Done (confirmEffect p tag offset (pl .answer)) t (carriedOut t pl)) (pickOf t (named p tag)) p tag m offset complete
-      (done-nothing t) (done-nothing t) (λ w. done-confirmed p tag _ _ (found w)) (λ w _. done-restarted p tag _ _ (found w) offset)
+      each-confirm (λ (pl : Plan). Done (confirmEffect p tag offset complete (pl .answer)) t (carriedOut t pl)) (pickOf t (named p tag)) p tag m offset complete
+      (done-nothing t) (done-nothing t) (λ w c. rw c (done-confirmed p tag _ _ (found w))) (λ w c _. rw c (done-restarted p tag _ _ (found w) offset))
 
   -- ---- start, finish, total reset
 
@@ -308,7 +303,8 @@ module _ (t : Table) (g : Good t) where
     unfolding fateOf
     done-finished failed =
         let effect : Effect = Finishes arrival transferred in
-        finished-ways t k failed transferred (f .below) (f .here) (Done effect t)
+        let running : isRunning (a .phase) ≡ true = sym (running-number (a .phase)) ∙ meets (runningAs arrival) a (f .picked) .stage in
+        finished-ways t k failed transferred (f .below) (f .here) running (Done effect t)
         (λ c.
         done-beside effect t (alteredAt t k (awaits transferred a)) (alteredAt t k (awaits transferred a) .paths) _ refl
         (done-altered t effect k a (awaits transferred a) g (f .below) (f .here) refl (rw (eq-eqb (a .arrival) arrival numbered-so, c))
@@ -371,14 +367,14 @@ module _ (ids : List ℕ) (t : Table) (g : Good t) (listed : t .count ≡ length
   done-planned m path tag (Command lun flags) l =
       let p : ℕ = pathOf t path in
       subst (λ (q : ℕ). Done (commandEffect q tag lun (kindOf (flags .queue)) (flags .confirm) (planAt t m p tag (Command lun flags) .answer)) t (carriedOut t (planAt t m p tag (Command lun flags)))) (sym (place path l))
-      (done-ruled t g p tag lun flags (deciding (factsOf t p tag lun false) flags m .gives) (accept-has-room t p tag lun flags m))
+      (done-ruled t g p tag lun flags (deciding (factsOf t p tag lun) flags m .gives) (accept-has-room t p tag lun flags m))
   done-planned m path tag (Manage o) l =
       let p : ℕ = pathOf t path in
       subst (λ (q : ℕ). Done (orderEffect q o (planAt t m p tag (Manage o) .answer)) t (carriedOut t (planAt t m p tag (Manage o)))) (sym (place path l))
-      (done-ordered t g _ p tag m o)
+      (done-ordered t g _ _ p tag m o)
   done-planned m path tag (Confirm offset complete) l =
       let p : ℕ = pathOf t path in
-      subst (λ (q : ℕ). Done (confirmEffect q tag offset (planAt t m p tag (Confirm offset complete) .answer)) t (carriedOut t (planAt t m p tag (Confirm offset complete)))) (sym (place path l))
+      subst (λ (q : ℕ). Done (confirmEffect q tag offset complete (planAt t m p tag (Confirm offset complete) .answer)) t (carriedOut t (planAt t m p tag (Confirm offset complete)))) (sym (place path l))
       (done-confirm t g p tag m offset complete)
 
   pub message-done : (m buf : List ℕ) → DoneBy (Message m buf) (messageOf t m (length buf))

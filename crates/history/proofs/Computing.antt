@@ -10,7 +10,8 @@ use Rattle.table.specs.Setup.{badList, freshPaths, pathsOf, freshTable, setupTa
 use Rattle.table.specs.Sound.{countOk, pathsDistinct, unusedZero, recordsOk, unitsOk, clashes, soundOf}
 use Rattle.table.specs.View.{at, weight}
 use Rattle.rules.specs.First.{firstThat}
-use Rattle.rules.specs.Rules.{factsOf, lookupOf, resumesUnmarked, missesResume, contradicts, keptOutByAca, acaKindWithoutAca, passesAttention, resetToReport, clearedToReport, roomRules, fieldRules, unitRules, blockRules, commandRules}
+use Rattle.rules.specs.Facts.{factsOf, lookupOf}
+use Rattle.rules.specs.Rules.{resumesUnmarked, missesResume, contradicts, keptOutByAca, acaKindWithoutAca, passesAttention, resetToReport, clearedToReport, roomRules, fieldRules, unitRules, blockRules, commandRules}
 use Rattle.rules.specs.Management.{orderCode}
 use Rattle.plan.specs.Plans.{orderPlan, confirmPlan}
 use Rattle.engine.specs.Calls.{heardOf, planAt, planFor, withRecords, carriedOut, answeredTo, messageOf, choiceOn, startVerdict, startOf, finishVerdict, finishOf, totalResetOf, setupOf}

@@ -1,17 +1,21 @@
--- The seven wrong drives do not meet demand 3, each by a short trace, computed. Assumes nothing.
-use Prim.Native.Nat.{ℕ, _-_, _≤_, _^_}
-use mathlib.Core.Path.{_≡_, refl, _∙_}
+-- The six wrong drives do not meet demand 3, each by a short trace, computed; and of the drives that echo those break it that go on answering, and those meet it that refuse. Assumes nothing.
+use Prim.Native.Nat.{ℕ, _≤_}
+use mathlib.Core.Path.{_≡_, refl, ap, subst, _∙_}
 use mathlib.Core.List.{List, [], _∷_}
 use native.Mathlib.Omega.{arith}
 use Rattle.wire.specs.Paper
-use Rattle.task.proofs.Promises.{count-is-ones}
+use Rattle.wire.specs.declared.codes.Refusal.{Refusal}
 use Rattle.table.specs.declared.Table.{Table}
 use Rattle.engine.specs.Calls.{setupOf}
-use Rattle.history.specs.Trace.{Event, Start, Finish, TotalReset}
-use Rattle.history.specs.Demand.{told, Chained, lastTable, Agrees, Demand3}
-use Rattle.history.specs.Drives.{Drive, callsOf, ByDrive, echoes, endedByTag, goesByTag, numbersAnew, finishesAll, losesTasks, endsAtFinish, inventsLive, WrongDrives}
+use Rattle.plan.specs.declared.Answer.{Answer}
+use Rattle.plan.specs.declared.Answer.the-variants as answer
+use Rattle.engine.specs.declared.Outcome.{Outcome}
+use Rattle.history.specs.Trace.{Event, Start, Finish, TotalReset, Told}
+use Rattle.history.specs.Demand.{Call, told, Chained, lastTable, Agrees, Demand3}
+use Rattle.history.specs.Drives.{Drive, callsOf, ByDrive, engine, endedByTag, goesByTag, numbersAnew, finishesAll, losesTasks, endsAtFinish, inventsLive, WrongDrives, Remembering, callsBy, Meets, Echoes, Echoing}
 use Rattle.history.specs.TwoHosts.{hosts, fresh, buffer, command, confirmable, abort}
 use Rattle.history.proofs.Computing.{computing}
+use Rattle.history.proofs.Demand.{as-engine, refusing, WorksOrRefuses, works-or-refuses}
 
 -- a drive's calls are what the drive hands back
 chained : (drive : Drive) (t : Table) (evs : List Event) → Chained (ByDrive drive) t (callsOf drive t evs)
@@ -22,7 +26,7 @@ chained drive t (ev ∷ evs) = (refl, chained drive (drive ev t .table) evs)
 -- what demand 3 would say of a drive's calls after a setup with two hosts, unit 0 alone and first arrival number 1
 attempt : (drive : Drive) → Demand3 (ByDrive drive) → (evs : List Event) → Agrees hosts (told (callsOf drive fresh evs)) (lastTable fresh (callsOf drive fresh evs))
 unfolding computing
-attempt drive d evs = d hosts 0x01 1 (setupOf hosts 0x01 1) (callsOf drive fresh evs) (omega arith) refl refl (chained drive fresh evs)
+attempt drive d evs = d hosts 0x01 1 (setupOf hosts 0x01 1) (callsOf drive fresh evs) (omega arith) refl (chained drive fresh evs)
 
 -- INQUIRY from a host with a tag, which is accepted while the attention of setup's reset is pending
 abbrev inquire : List ℕ
@@ -36,12 +40,8 @@ abbrev finish : ℕ → Event
 finish arrival = Finish arrival Paper.good Paper.noSense 0 buffer
 
 pub wrong-drives : WrongDrives
-unfolding computing echoes endedByTag goesByTag numbersAnew finishesAll losesTasks endsAtFinish inventsLive
+unfolding computing endedByTag goesByTag numbersAnew finishesAll losesTasks endsAtFinish inventsLive
 wrong-drives = record {
-  -- two commands are accepted, none is ended, one is live
-  not-echoes = λ d.
-      let z : _≡_ {A = ℕ} 2 1 = attempt echoes d (inquiry 1 5 ∷ inquiry 1 6 ∷ []) .balance 0 in
-      omega arith;
   -- host 1 aborts its own command; host 2's with the same tag is accepted, not ended and not live
   not-by-tag = λ d.
       let z : _≡_ {A = ℕ} 1 0 = attempt goesByTag d (inquiry 1 5 ∷ inquiry 2 5 ∷ abort 1 6 5 ∷ []) .balance 1 in
@@ -62,8 +62,64 @@ wrong-drives = record {
   not-at-finish = λ d.
       let z : _≡_ {A = ℕ} 1 0 = attempt endsAtFinish d (confirmable 1 5 inquire ∷ Start 0 ∷ finish 1 ∷ []) .balance 0 in
       omega arith;
-  -- the live map has 64 ones, and one command is open
+  -- one command is accepted and not ended, and 64 records of the path at 0 are said to be live
   not-invents = λ d.
-      let z : _≡_ {A = ℕ} 64 1 = count-is-ones (2 ^ 64 - 1) (omega arith) ∙ attempt inventsLive d (inquiry 1 5 ∷ []) .live-count in
+      let z : _≡_ {A = ℕ} 1 64 = attempt inventsLive d (inquiry 1 5 ∷ []) .balance 0 in
       omega arith;
 }
+
+-- ---- drives that work at the first call and afterwards only echo
+
+-- the first call of such a drive and a second one: what was told, and the last table
+module _ (d : Remembering) (E : Echoes d) (ev ev' : Event) (t : Table) where
+  abbrev first : Outcome
+  first = engine ev t
+
+  abbrev firstTold : Told
+  firstTold = record { event = ev; answer = first .answer }
+
+  abbrev two : List Call
+  two = callsBy d [] t (ev ∷ ev' ∷ [])
+
+  told-two : told two ≡ firstTold ∷ record { event = ev'; answer = d (firstTold ∷ []) ev' (first .table) .answer } ∷ []
+  unfolding callsBy
+  told-two = rw (E .works ev t)
+
+  last-two : lastTable t two ≡ first .table
+  unfolding callsBy lastTable
+  last-two = rw (E .works ev t) (E .echo firstTold [] ev' (first .table))
+
+-- such a drive that answers as the engine would accepts two commands, and one is live
+echo-breaks : (d : Remembering) → Echoes d → ((x : Told) (h : List Told) (ev : Event) (t : Table) → d (x ∷ h) ev t .answer ≡ engine ev t .answer) → Meets d → ⊥
+unfolding computing
+echo-breaks d E answers m =
+    let ev : Event = inquiry 1 5 in
+    let ev' : Event = inquiry 1 6 in
+    let h : List Told = firstTold d E ev ev' fresh ∷ record { event = ev'; answer = engine ev' (engine ev fresh .table) .answer } ∷ [] in
+    let same : told (callsBy d [] fresh (ev ∷ ev' ∷ [])) ≡ h =
+    told-two d E ev ev' fresh ∙ ap (λ (a : Answer). firstTold d E ev ev' fresh ∷ record { event = ev'; answer = a } ∷ []) (answers _ [] ev' (engine ev fresh .table)) in
+    let agreed : Agrees hosts h (engine ev fresh .table) =
+    subst (Agrees hosts h) (last-two d E ev ev' fresh)
+    (subst (λ (h : List Told). Agrees hosts h (lastTable fresh (callsBy d [] fresh (ev ∷ ev' ∷ [])))) same (m hosts 0x01 1 (ev ∷ ev' ∷ []) (omega arith))) in
+    let z : _≡_ {A = ℕ} 2 1 = agreed .balance 0 in
+    omega arith
+
+module _ (d : Remembering) (E : Echoes d) (R : (x : Told) (h : List Told) (ev : Event) (t : Table) → (n : Refusal) × (d (x ∷ h) ev t .answer ≡ answer.Refused n)) where
+  later : (x : Told) (h : List Told) (t : Table) (evs : List Event) → Chained WorksOrRefuses t (callsBy d (x ∷ h) t evs)
+  unfolding callsBy
+  later x h t [] = tt
+  later x h t (ev ∷ evs) =
+      let r = R x h ev t in
+      (refusing (r .0) (r .1) (E .echo x h ev t), later x _ (d (x ∷ h) ev t .table) evs)
+
+  from-first : (t : Table) (evs : List Event) → Chained WorksOrRefuses t (callsBy d [] t evs)
+  unfolding callsBy
+  from-first t [] = tt
+  from-first t (ev ∷ evs) = (as-engine (E .works ev t), later _ [] (d [] ev t .table) evs)
+
+  echo-meets : Meets d
+  echo-meets ids attached first evs l =
+      works-or-refuses ids attached first (setupOf ids attached first) (callsBy d [] (setupOf ids attached first .table) evs) l refl (from-first _ evs)
+
+pub echoing : Echoing
+echoing = record { breaks = echo-breaks; meets = echo-meets }

@@ -15,6 +15,7 @@ use Rattle.task.specs.declared.Task.{Task}
 use Rattle.task.proofs.Ways.{either-way, both, cond-ind}
 use Rattle.task.proofs.Places.{lt-or-le}
 use Rattle.table.specs.Tables.{pathAt}
+use Rattle.table.specs.Sound.{Shaped}
 use Rattle.table.specs.View.{at, weightAt, weight}
 use Rattle.table.specs.Promises.{Good}
 use Rattle.table.specs.declared.Table.{Table}
@@ -46,6 +47,17 @@ pub record Tied (ids : List ℕ) (l : List Entry) (t : Table) : Type 0 where
   pub unused : (n : ℕ) → t .next ≤ n → countOf (hasNumber n) l ≡ 0
   -- no entry has a second ending
   pub single : total extra l ≡ 0
+
+-- what of it the agreement goes by
+pub record Matched (l : List Entry) (t : Table) : Type 0 where
+  pub shaped : Shaped t
+  pub one-arrival : (i j : ℕ) (a b : Task) → i < 64 → j < 64 → at t i ≡ some a → at t j ≡ some b → a .arrival ≡ b .arrival → i ≡ j
+  pub same : (f : Task → ℕ) → total (openWeight f) l ≡ weight f t
+  pub given : (n : ℕ) → countOf (hasNumber n) l ≤ 1
+  pub single : total extra l ≡ 0
+
+pub matched : {ids : List ℕ} {l : List Entry} {t : Table} → Tied ids l t → Matched l t
+matched T = record { shaped = T .good .shaped; one-arrival = T .good .sound .one-arrival; same = T .same; given = T .given; single = T .single }
 
 -- ---- what an effect is to do to a table
 

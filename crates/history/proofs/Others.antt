@@ -21,16 +21,17 @@ use Rattle.table.specs.Sound.{Shaped}
 use Rattle.table.specs.View.{at}
 use Rattle.table.specs.declared.Table.{Table}
 use Rattle.table.proofs.Views.{not-both, at-put-other, at-free, same-at, ended-to, altered-other, pick-at}
-use Rattle.rules.specs.Rules.{factsOf, lookupOf, deciding}
+use Rattle.rules.specs.Facts.{factsOf, lookupOf}
+use Rattle.rules.specs.Rules.{deciding}
 use Rattle.rules.specs.Management.{orderCode}
 use Rattle.plan.specs.Plans.{ruled, orderPlan}
 use Rattle.engine.specs.Calls.{withParts, planAt, withRecords, carriedOut}
+use Rattle.rules.specs.declared.change.Change.{Change}
 use Rattle.rules.specs.declared.command.Ruling.{Ruling}
 use Rattle.rules.specs.declared.command.Ruling.the-variants.{Refuse, Respond, Report, Invalid, Accept}
 use Rattle.rules.specs.declared.manage.Order.the-variants.{AbortTask}
 use Rattle.plan.specs.declared.Request.{Request}
 use Rattle.plan.specs.declared.Request.the-variants.{Command, Manage, Confirm}
-use Rattle.plan.specs.declared.Change.{Change}
 use Rattle.plan.specs.declared.RecordChange.{RecordChange}
 use Rattle.plan.specs.declared.RecordChange.the-variants as records
 use Rattle.plan.specs.declared.Plan.{Plan}
@@ -40,12 +41,12 @@ use Rattle.engine.proofs.Outcomes.{each-message, each-confirm}
 use Rattle.history.proofs.Nth.{same-element}
 use Rattle.history.proofs.Traces.{own-order, own-numbered}
 
--- ---- a plan whose deed does not end or restart a task leaves it in its record
+-- ---- a plan that does not end or restart a task leaves it in its record
 
 abbrev Holds : ℕ → Task → Table → Type 0
 Holds i a t = at t i ≡ some a
 
--- a deed ends nothing, or does not pick the task; or it is about another record
+-- a change of the records ends nothing, or does not pick the task; or it is about another record
 abbrev Spares : ℕ → Task → RecordChange → Type 0
 Spares i a records.Nothing = Unit {0}
 Spares i a (records.Accept path tag lun kind confirm) = Unit {0}
@@ -64,16 +65,16 @@ module _ (i : ℕ) (a : Task) (l : i < 64) where
     parts-leave : (c : Change) → Holds i a (withParts t c)
     parts-leave c = same-at t _ _ i ∙ e
 
-    deed-leaves : (c : Change) (d : RecordChange) → Spares i a d → Holds i a (withRecords (withParts t c) d)
+    records-leave : (c : Change) (d : RecordChange) → Spares i a d → Holds i a (withRecords (withParts t c) d)
     unfolding withRecords endedBy
-    deed-leaves c records.Nothing s = parts-leave c
-    deed-leaves c (records.Accept path tag lun kind confirm) s = accept-leaves (withParts t c) path tag lun kind confirm (parts-leave c)
-    deed-leaves c (records.End ended) s = same-at (endedBy t ended) _ _ i ∙ ended-to t ended h l e s
-    deed-leaves c (records.Restart place offset) s = altered-other (withParts t c) place _ i s ∙ parts-leave c
+    records-leave c records.Nothing s = parts-leave c
+    records-leave c (records.Accept path tag lun kind confirm) s = accept-leaves (withParts t c) path tag lun kind confirm (parts-leave c)
+    records-leave c (records.End ended) s = same-at (endedBy t ended) _ _ i ∙ ended-to t ended h l e s
+    records-leave c (records.Restart place offset) s = altered-other (withParts t c) place _ i s ∙ parts-leave c
 
     plan-leaves : (pl : Plan) → Spares i a (pl .records) → Holds i a (carriedOut t pl)
     unfolding carriedOut
-    plan-leaves pl s = deed-leaves (pl .change) (pl .records) s
+    plan-leaves pl s = records-leave (pl .change) (pl .records) s
 
     -- ---- what is planned for such a message of the path at p does not end or restart another path's task
 
@@ -90,13 +91,13 @@ module _ (i : ℕ) (a : Task) (l : i < 64) where
 
       plan-spares : (m : List ℕ) (tag : ℕ) (w : Request) → mayReachOthers w ≡ false → Spares i a (planAt t m p tag w .records)
       unfolding planAt lookupOf orderPlan
-      plan-spares m tag (Command lun flags) r = ruling-spares (t .next) tag lun flags (deciding (factsOf t p tag lun false) flags m .gives)
+      plan-spares m tag (Command lun flags) r = ruling-spares (t .next) tag lun flags (deciding (factsOf t p tag lun) flags m .gives)
       plan-spares m tag (Manage o) r =
           cond-ind (λ (pl : Plan). Spares i a (pl .records)) (eqb (orderCode _ m o .0) (Paper.done .0)) (λ _. not-ended _ (own-order p o r a)) (λ _. tt)
       plan-spares m tag (Confirm offset complete) r =
           let own : Pick = pickOf t (named p tag) in
-          each-confirm (λ (pl : Plan). Spares i a (pl .records)) own p tag m offset complete tt tt (λ _. not-ended _ (own-numbered (own .task .arrival) p tag a))
-          (λ w _ same.
+          each-confirm (λ (pl : Plan). Spares i a (pl .records)) own p tag m offset complete tt tt (λ _ _. not-ended _ (own-numbered (own .task .arrival) p tag a))
+          (λ w _ _ same.
           let f = pick-at t (named p tag) h (both _ _ w .0) in
           n (ap (λ (b : Task). b .path) (same-element (rw same at e) (f .here)) ∙ own-order p (AbortTask tag) refl (own .task) (f .picked)))
 

@@ -17,6 +17,8 @@ use Rattle.wire.specs.declared.codes.Refusal.{Refusal}
 use Rattle.wire.specs.declared.codes.ReturnCode.{ReturnCode}
 use Rattle.wire.specs.declared.codes.StatusByte.{StatusByte}
 use Rattle.wire.specs.declared.codes.Sense.{Sense}
+use Rattle.reply.specs.declared.Reply.{Reply}
+use Rattle.reply.specs.declared.Reply.the-variants as reply
 use Rattle.task.specs.Tasks.{acceptedAs}
 use Rattle.task.specs.Selections.{picks, numberedAs}
 use Rattle.task.specs.declared.Kind.{Kind}
@@ -26,7 +28,7 @@ use Rattle.task.proofs.Ways.{never, cond-ind, both}
 use Rattle.task.proofs.Places.{below-suc}
 use Rattle.task.proofs.Selecting.{meets}
 use Rattle.rules.specs.Management.{endsOf}
-use Rattle.plan.specs.Plans.{askedOf, kindOf}
+use Rattle.plan.specs.Plans.{askedOf, kindOf, replyOf}
 use Rattle.rules.specs.declared.manage.Order.{Order}
 use Rattle.rules.specs.declared.manage.Order.the-variants.{AbortTask, AbortTaskSet, ClearTaskSet, ClearAca, UnitReset, TargetReset}
 use Rattle.plan.specs.declared.Request.{Request}
@@ -35,7 +37,7 @@ use Rattle.plan.specs.declared.Asked.{Asked}
 use Rattle.plan.specs.declared.Asked.the-variants.{By, Unread}
 use Rattle.plan.specs.declared.Answer.{Answer}
 use Rattle.plan.specs.declared.Answer.the-variants as answer
-use Rattle.history.specs.Trace.{Event, Message, Start, Finish, TotalReset, Told, nth, eventAt, Label, byStatus, byOrder, Effect, Nothing, Accepts, Restarts, Ends, Fate, stays, becomes, ended, fateOf, placeIn, commandEffect, orderEffect, confirmEffect, messageEffect, startEffect, finishEffect, resetEffect, effectOf, effectTold}
+use Rattle.history.specs.Trace.{Event, Message, Start, Finish, TotalReset, Told, nth, eventAt, Label, byStatus, byOrder, Effect, Nothing, Accepts, Restarts, Ends, Fate, stays, becomes, ended, fateOf, placeIn, commandEffect, orderReplied, orderEffect, confirmEffect, messageEffect, startEffect, finishReplied, resetEffect, effectOf, effectTold}
 use Rattle.history.specs.Ledger.{Ending, Entry, isEmpty, newEntry, afterEffect, newEntries, noted, ledgerFrom, ledger, Has}
 use Rattle.history.specs.Demand.{EntryAt, waiting, Came, Caused, reachesOthers, mayReachOthers, EndsItsOwn}
 use Rattle.history.proofs.Nth.{Each, same-element, nth-below, nth-append, nth-last, nth-map, each-none, each-one, each-append, each-map}
@@ -43,40 +45,44 @@ use Rattle.history.proofs.Fates.{effect-ways, taken, new-entries-ways}
 
 -- ---- what an event can do, by its answer
 
--- a fact about every answer, from each sort of answer
-each-answer : (P : Answer → Type 0) → P answer.Ready → ((n : ℕ) → P (answer.Accepted n)) → ((t : ℕ) (code : ReturnCode) → P (answer.Response t code))
-    → ((t : ℕ) (status : StatusByte) (sense : Sense) → P (answer.Status t status sense)) → ((t : ℕ) → P (answer.Invalid t)) → ((o n : ℕ) → P (answer.Started o n))
+-- a fact about every answer, from each sort of answer; and about every reply that an answer may be
+each-answer : (P : Answer → Type 0) → P answer.Ready → ((n : ℕ) → P (answer.Accepted n)) → ((r : Reply) → P (answer.Reply r)) → ((o n : ℕ) → P (answer.Started o n))
     → ((n : ℕ) → P (answer.Confirmed n)) → ((n : ℕ) → P (answer.Restarted n)) → P answer.Reset → ((n : Refusal) → P (answer.Refused n)) → (a : Answer) → P a
-each-answer P ready accepted response status invalid started confirmed restarted reset refused answer.Ready = ready
-each-answer P ready accepted response status invalid started confirmed restarted reset refused (answer.Accepted n) = accepted n
-each-answer P ready accepted response status invalid started confirmed restarted reset refused (answer.Response t code) = response t code
-each-answer P ready accepted response status invalid started confirmed restarted reset refused (answer.Status t s sense) = status t s sense
-each-answer P ready accepted response status invalid started confirmed restarted reset refused (answer.Invalid t) = invalid t
-each-answer P ready accepted response status invalid started confirmed restarted reset refused (answer.Started o n) = started o n
-each-answer P ready accepted response status invalid started confirmed restarted reset refused (answer.Confirmed n) = confirmed n
-each-answer P ready accepted response status invalid started confirmed restarted reset refused (answer.Restarted n) = restarted n
-each-answer P ready accepted response status invalid started confirmed restarted reset refused answer.Reset = reset
-each-answer P ready accepted response status invalid started confirmed restarted reset refused (answer.Refused n) = refused n
+each-answer P ready accepted replied started confirmed restarted reset refused answer.Ready = ready
+each-answer P ready accepted replied started confirmed restarted reset refused (answer.Accepted n) = accepted n
+each-answer P ready accepted replied started confirmed restarted reset refused (answer.Reply r) = replied r
+each-answer P ready accepted replied started confirmed restarted reset refused (answer.Started o n) = started o n
+each-answer P ready accepted replied started confirmed restarted reset refused (answer.Confirmed n) = confirmed n
+each-answer P ready accepted replied started confirmed restarted reset refused (answer.Restarted n) = restarted n
+each-answer P ready accepted replied started confirmed restarted reset refused answer.Reset = reset
+each-answer P ready accepted replied started confirmed restarted reset refused (answer.Refused n) = refused n
+
+each-reply : (P : Option Reply → Type 0) → P none → ((t : ℕ) (code : ReturnCode) → P (some (reply.Response t code)))
+    → ((t : ℕ) (status : StatusByte) (sense : Sense) → P (some (reply.Status t status sense))) → ((t : ℕ) → P (some (reply.Invalid t))) → (x : Option Reply) → P x
+each-reply P nothing response status invalid none = nothing
+each-reply P nothing response status invalid (some (reply.Response t code)) = response t code
+each-reply P nothing response status invalid (some (reply.Status t s sense)) = status t s sense
+each-reply P nothing response status invalid (some (reply.Invalid t)) = invalid t
 
 module _ (P : Effect → Type 0) (nothing : P Nothing) where
   -- a command is accepted, and then waits
   command-can : (p tag lun : ℕ) (kind : Kind) (confirm : Bool) → ((n : ℕ) → P (Accepts (acceptedAs n p tag lun kind confirm)))
       → (a : Answer) → P (commandEffect p tag lun kind confirm a)
   command-can p tag lun kind confirm accepts =
-      each-answer (λ a. P (commandEffect p tag lun kind confirm a)) nothing accepts (λ _ _. nothing) (λ _ _ _. nothing) (λ _. nothing) (λ _ _. nothing) (λ _. nothing) (λ _. nothing) nothing (λ _. nothing)
+      each-answer (λ a. P (commandEffect p tag lun kind confirm a)) nothing accepts (λ _. nothing) (λ _ _. nothing) (λ _. nothing) (λ _. nothing) nothing (λ _. nothing)
 
   -- an order ends what it selects
   order-can : (p : ℕ) (o : Order) → P (Ends (endsOf p o) (byOrder o)) → (a : Answer) → P (orderEffect p o a)
-  order-can p o ends =
-      each-answer (λ a. P (orderEffect p o a)) nothing (λ _. nothing)
-      (λ t code. cond-ind P (eqb (code .0) (Paper.done .0)) (λ _. ends) (λ _. nothing))
-      (λ _ _ _. nothing) (λ _. nothing) (λ _ _. nothing) (λ _. nothing) (λ _. nothing) nothing (λ _. nothing)
+  order-can p o ends a =
+      each-reply (λ x. P (orderReplied p o x)) nothing
+      (λ t code. cond-ind P (eqb (code .0) (Paper.done .0)) (λ _. ends) (λ _. nothing)) (λ _ _ _. nothing) (λ _. nothing) (replyOf a)
 
   -- a confirmation ends a command, or has it wait again
-  confirm-can : (p tag offset : ℕ) → ((n : ℕ) → P (Ends (numberedAs n p tag) byStatus)) → ((n : ℕ) → P (Restarts (numberedAs n p tag) offset))
-      → (a : Answer) → P (confirmEffect p tag offset a)
-  confirm-can p tag offset ends restarts =
-      each-answer (λ a. P (confirmEffect p tag offset a)) nothing (λ _. nothing) (λ _ _. nothing) (λ _ _ _. nothing) (λ _. nothing) (λ _ _. nothing) ends restarts nothing (λ _. nothing)
+  confirm-can : (p tag offset : ℕ) (complete : Bool) → ((n : ℕ) → P (Ends (numberedAs n p tag) byStatus)) → ((n : ℕ) → P (Restarts (numberedAs n p tag) offset))
+      → (a : Answer) → P (confirmEffect p tag offset complete a)
+  confirm-can p tag offset complete ends restarts =
+      each-answer (λ a. P (confirmEffect p tag offset complete a)) nothing (λ _. nothing) (λ _. nothing) (λ _ _. nothing)
+      (λ n. cond-ind P complete (λ _. ends n) (λ _. nothing)) (λ n. cond-ind P complete (λ _. nothing) (λ _. restarts n)) nothing (λ _. nothing)
 
 -- what it accepts waits
 abbrev Waits : Option Task → Type 0
@@ -90,16 +96,16 @@ message-waiting : (ids : List ℕ) (q : Asked) (a : Answer) → AcceptsWaiting (
 message-waiting ids (Unread n) a = tt
 message-waiting ids (By path tag (Command lun flags)) a = command-can AcceptsWaiting tt (placeIn ids path) tag lun (kindOf (flags .queue)) (flags .confirm) (λ _. refl) a
 message-waiting ids (By path tag (Manage o)) a = order-can AcceptsWaiting tt (placeIn ids path) o tt a
-message-waiting ids (By path tag (Confirm offset complete)) a = confirm-can AcceptsWaiting tt (placeIn ids path) tag offset (λ _. tt) (λ _. tt) a
+message-waiting ids (By path tag (Confirm offset complete)) a = confirm-can AcceptsWaiting tt (placeIn ids path) tag offset complete (λ _. tt) (λ _. tt) a
 
 event-waiting : (ids : List ℕ) (ev : Event) (a : Answer) → AcceptsWaiting (effectOf ids ev a)
 event-waiting ids (Message m buf) a = message-waiting ids (askedOf (readOf m)) a
 event-waiting ids (Start unit) a =
-    each-answer (λ a. AcceptsWaiting (startEffect a)) tt (λ _. tt) (λ _ _. tt) (λ _ _ _. tt) (λ _. tt) (λ _ _. tt) (λ _. tt) (λ _. tt) tt (λ _. tt) a
+    each-answer (λ a. AcceptsWaiting (startEffect a)) tt (λ _. tt) (λ _. tt) (λ _ _. tt) (λ _. tt) (λ _. tt) tt (λ _. tt) a
 event-waiting ids (Finish arrival status sense transferred buf) a =
-    each-answer (λ a. AcceptsWaiting (finishEffect arrival transferred a)) tt (λ _. tt) (λ _ _. tt) (λ _ _ _. tt) (λ _. tt) (λ _ _. tt) (λ _. tt) (λ _. tt) tt (λ _. tt) a
+    each-reply (λ x. AcceptsWaiting (finishReplied arrival transferred x)) tt (λ _ _. tt) (λ _ _ _. tt) (λ _. tt) (replyOf a)
 event-waiting ids TotalReset a =
-    each-answer (λ a. AcceptsWaiting (resetEffect a)) tt (λ _. tt) (λ _ _. tt) (λ _ _ _. tt) (λ _. tt) (λ _ _. tt) (λ _. tt) (λ _. tt) tt (λ _. tt) a
+    each-answer (λ a. AcceptsWaiting (resetEffect a)) tt (λ _. tt) (λ _. tt) (λ _ _. tt) (λ _. tt) (λ _. tt) tt (λ _. tt) a
 
 accepts-waiting : (ids : List ℕ) (x : Told) (a : Task) → effectTold ids x ≡ Accepts a → waiting a ≡ a
 accepts-waiting ids x a f = subst AcceptsWaiting f (event-waiting ids (x .event) (x .answer))
@@ -287,7 +293,7 @@ own-message ids path tag (Manage o) a r =
     order-can (EndsFrom p) (from-nothing p) p o (from-end p (endsOf p o) (byOrder o) (own-order p o r)) a
 own-message ids path tag (Confirm offset complete) a r =
     let p : ℕ = placeIn ids path in
-    confirm-can (EndsFrom p) (from-nothing p) p tag offset
+    confirm-can (EndsFrom p) (from-nothing p) p tag offset complete
     (λ n. from-end p (numberedAs n p tag) byStatus (own-numbered n p tag))
     (λ n. from-restart p (numberedAs n p tag) offset) a
 

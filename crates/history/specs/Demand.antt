@@ -4,23 +4,24 @@ use mathlib.Core.Path.{_≡_}
 use mathlib.Core.Bool.{Bool, true, false}
 use mathlib.Core.List.{List, [], _∷_, map}
 use mathlib.Core.Option.{some}
-use lib.ListN.{length}
 use lib.Count.{ones}
+use Rattle.wire.specs.Paper
 use Rattle.wire.specs.Messages.{readOf}
+use Rattle.wire.specs.declared.codes.Refusal.{Refusal}
 use Rattle.task.specs.Tasks.{acceptedAs}
 use Rattle.task.specs.declared.Task.{Task}
-use Rattle.table.specs.Tables.{pathOf}
+use Rattle.table.specs.Tables.{pathOf, zeroTable}
 use Rattle.table.specs.View.{at, liveOf}
 use Rattle.table.specs.Promises.{Good}
 use Rattle.table.specs.declared.Table.{Table}
 use Rattle.plan.specs.Plans.{askedOf}
-use Rattle.engine.specs.Calls.{messageOf, startOf, finishOf, totalResetOf, setupOf, Answers}
+use Rattle.engine.specs.Calls.{SetupContract, MessageContract, StartContract, FinishContract, TotalResetContract}
 use Rattle.rules.specs.declared.manage.Order.{Order}
 use Rattle.rules.specs.declared.manage.Order.the-variants.{AbortTask, AbortTaskSet, ClearTaskSet, ClearAca, UnitReset, TargetReset}
 use Rattle.plan.specs.declared.Request.{Request}
 use Rattle.plan.specs.declared.Request.the-variants.{Command, Manage, Confirm}
 use Rattle.plan.specs.declared.Asked.the-variants.{By}
-use Rattle.plan.specs.declared.Answer.the-variants.{Ready}
+use Rattle.plan.specs.declared.Answer.the-variants.{Refused}
 use Rattle.engine.specs.declared.Outcome.{Outcome}
 use Rattle.history.specs.Trace.{Event, Message, Start, Finish, TotalReset, Told, nth, eventAt, countsAsStatus, countsAsManagement, countsAsReset, Accepts, ended, fateOf, placeIn, effectTold}
 use Rattle.history.specs.Ledger.{Ending, Entry, isOpen, timesEnded, ledger, countOf, Has, acceptedFrom, endedFrom}
@@ -41,12 +42,12 @@ told cs = map (λ (c : Call). record { event = c .event; answer = c .outcome .an
 abbrev pub Contract : Type 1
 Contract = Event → Table → Outcome → List ℕ → Type 0
 
--- the contracts of the engine's calls, as they stand in its code
+-- the contracts of the engine's calls, those that its code ensures
 abbrev pub Engine : Contract
-Engine (Message m buf) t o left = Answers (messageOf t m (length buf)) buf o left
-Engine (Start unit) t o left = o ≡ startOf t unit
-Engine (Finish arrival status sense transferred buf) t o left = Answers (finishOf t arrival status sense transferred (length buf)) buf o left
-Engine TotalReset t o left = o ≡ totalResetOf t
+Engine (Message m buf) t o left = MessageContract t m buf o left
+Engine (Start unit) t o left = StartContract t unit o
+Engine (Finish arrival status sense transferred buf) t o left = FinishContract t arrival status sense transferred buf o left
+Engine TotalReset t o left = TotalResetContract t o
 
 -- each call meets the contract, given the table that the last one handed back
 abbrev pub Chained : Contract → Table → List Call → Type 0
@@ -103,11 +104,21 @@ pub record Agrees (ids : List ℕ) (h : List Told) (t : Table) : Type 0 where
   -- 3. for the path at each place of the list: accepted = ended by status + ended by management + ended by reset + live records
   pub balance : (p : ℕ) → acceptedFrom ids p h ≡ accountedFor p (ledger ids h) t
 
--- ---- the demand on the contracts of the four calls after setup: every setup of the engine that is not refused, and whatever the calls then handed back, given only their contracts
+-- ---- the demand on the contracts of the four calls after setup: every setup of the engine, and whatever the calls then handed back, given only their contracts
 
 abbrev pub Demand3 : Contract → Type 0
-Demand3 C = (ids : List ℕ) (attached first : ℕ) (o : Outcome) (cs : List Call) → first < 2 ^ 64 → o ≡ setupOf ids attached first → o .answer ≡ Ready → Chained C (o .table) cs
+Demand3 C = (ids : List ℕ) (attached first : ℕ) (o : Outcome) (cs : List Call) → first < 2 ^ 64 → SetupContract ids attached first o → Chained C (o .table) cs
     → Agrees ids (told cs) (lastTable (o .table) cs)
+
+-- after a refused setup each call is refused by 13, the table stays all zero, and the ledger is empty
+pub record Refusing (ids : List ℕ) (t : Table) (cs : List Call) : Type 0 where
+  pub refused : (k : ℕ) (c : Call) → nth cs k ≡ some c → c .outcome .answer ≡ Refused Paper.notSound
+  pub table : lastTable t cs ≡ zeroTable
+  pub empty : ledger ids (told cs) ≡ []
+
+abbrev pub AfterRefusedSetup : Type 0
+AfterRefusedSetup = (ids : List ℕ) (attached first : ℕ) (o : Outcome) (n : Refusal) (cs : List Call) → SetupContract ids attached first o → o .answer ≡ Refused n → Chained Engine (o .table) cs
+    → Refusing ids (o .table) cs
 
 -- ---- for the customer: whose commands a message ends
 
@@ -134,5 +145,5 @@ EndsItsOwn = (ids : List ℕ) (h : List Told) (k : ℕ) (e : Entry) (x : Ending)
 -- in the table: such a message leaves every live record of another path where it is and as it is
 abbrev pub OthersStay : Type 0
 OthersStay = (t : Table) (m buf : List ℕ) (o : Outcome) (left : List ℕ) (path tag : ℕ) (w : Request)
-    → Good t → Answers (messageOf t m (length buf)) buf o left → askedOf (readOf m) ≡ By path tag w → mayReachOthers w ≡ false
+    → Good t → MessageContract t m buf o left → askedOf (readOf m) ≡ By path tag w → mayReachOthers w ≡ false
     → (i : ℕ) (a : Task) → i < 64 → at t i ≡ some a → (a .path ≡ pathOf t path → ⊥) → at (o .table) i ≡ some a

@@ -1,12 +1,13 @@
--- Wrong drives: seven differ from the engine in one thing and break demand 3 on a short trace; an eighth refuses every call, which demand 3 alone does not refuse.
-use Prim.Native.Nat.{ℕ, zero, suc, _-_, _^_}
+-- Drives: the engine's own calls; six that differ from it in one thing and break demand 3 on a short trace; those that work at the first call and afterwards only echo;
+-- and one that refuses every call, which demand 3 alone does not refuse.
+use Prim.Native.Nat.{ℕ, zero, suc, _-_, _<_, _^_}
 use mathlib.Core.Path.{_≡_}
-use mathlib.Core.Bool.{cond}
-use mathlib.Core.List.{List, [], _∷_}
+use mathlib.Core.List.{List, [], _∷_, _++_}
 use lib.ListN.{length}
-use lib.Dec.{eqb}
 use Rattle.wire.specs.Paper
 use Rattle.wire.specs.Messages.{readOf}
+use Rattle.wire.specs.declared.codes.Refusal.{Refusal}
+use Rattle.reply.specs.declared.Reply.the-variants as reply
 use Rattle.task.specs.Selections.{select, everyTask, named}
 use Rattle.task.specs.declared.select.Number.the-variants.{Exactly}
 use Rattle.task.specs.declared.select.Whose.the-variants.{Anyone}
@@ -17,25 +18,33 @@ use Rattle.task.specs.declared.select.Selection.{Selection}
 use Rattle.table.specs.Tables.{endedBy}
 use Rattle.table.specs.declared.Table.{Table}
 use Rattle.plan.specs.Plans.{askedOf}
-use Rattle.engine.specs.Calls.{messageOf, startOf, finishOf, totalResetOf, out}
+use Rattle.engine.specs.Calls.{messageOf, startOf, finishOf, totalResetOf, setupOf, replied, out}
 use Rattle.rules.specs.declared.manage.Order.{Order}
 use Rattle.rules.specs.declared.manage.Order.the-variants.{AbortTask, AbortTaskSet, ClearTaskSet, ClearAca, UnitReset, TargetReset}
 use Rattle.plan.specs.declared.Request.the-variants.{Command, Manage, Confirm}
 use Rattle.plan.specs.declared.Asked.{Asked}
 use Rattle.plan.specs.declared.Asked.the-variants.{By, Unread}
+use Rattle.plan.specs.declared.Answer.{Answer}
 use Rattle.plan.specs.declared.Answer.the-variants as answer
 use Rattle.engine.specs.declared.Outcome.{Outcome}
-use Rattle.history.specs.Trace.{Event, Message, Start, Finish, TotalReset}
-use Rattle.history.specs.Demand.{Call, Contract, Demand3}
+use Rattle.history.specs.Trace.{Event, Message, Start, Finish, TotalReset, Told}
+use Rattle.history.specs.Demand.{Call, told, Contract, Engine, Chained, lastTable, Agrees, Demand3}
 
 -- a drive: what it hands back for an event and the table handed in
 abbrev pub Drive : Type 0
 Drive = Event → Table → Outcome
 
--- the calls of a drive, one for each event
+-- the reply buffer as it is left after an event that was answered so; a start and a total reset have none
+unfoldable pub leftAfter : Event → Answer → List ℕ
+leftAfter (Message m buf) a = replied a buf
+leftAfter (Start unit) a = []
+leftAfter (Finish arrival status sense transferred buf) a = replied a buf
+leftAfter TotalReset a = []
+
+-- the calls of a drive, one for each event, each given the table that the last one handed back
 unfoldable pub callsOf : Drive → Table → List Event → List Call
 callsOf drive t [] = []
-callsOf drive t (ev ∷ evs) = record { event = ev; outcome = drive ev t; left = [] } ∷ callsOf drive (drive ev t .table) evs
+callsOf drive t (ev ∷ evs) = record { event = ev; outcome = drive ev t; left = leftAfter ev (drive ev t .answer) } ∷ callsOf drive (drive ev t .table) evs
 
 abbrev pub ByDrive : Drive → Contract
 ByDrive drive ev t o left = o ≡ drive ev t
@@ -47,14 +56,18 @@ engine (Start unit) t = startOf t unit
 engine (Finish arrival status sense transferred buf) t = finishOf t arrival status sense transferred (length buf)
 engine TotalReset t = totalResetOf t
 
+-- from any table and over any events its calls meet the contracts; so after any setup ledger and table agree
+abbrev pub EngineChains : Type 0
+EngineChains = (t : Table) (evs : List Event) → Chained Engine t (callsOf engine t evs)
+
+abbrev pub EngineAgrees : Type 0
+EngineAgrees = (ids : List ℕ) (attached first : ℕ) (evs : List Event) → first < 2 ^ 64
+    → let t = setupOf ids attached first .table in Agrees ids (told (callsOf engine t evs)) (lastTable t (callsOf engine t evs))
+
 -- ---- the engine's outcome, with one thing wrong
 
 abbrev pub withTable : Outcome → Table → Outcome
 withTable o t = out t (o .answer) (o .to)
-
--- it works until a command is accepted after a setup whose first arrival number is 1, at the first call of a trace that begins with one, and afterwards echoes its table
-unfoldable pub echoes : Drive
-echoes ev t = withTable (engine ev t) (cond (eqb (t .next) 1) (engine ev t .table) t)
 
 -- the task with a tag of every path below p is ended
 unfoldable pub endedByTag : ℕ → Table → ℕ → Table
@@ -96,7 +109,7 @@ numbersAnew TotalReset t = withTable (totalResetOf t) (fromOne (totalResetOf t .
 unfoldable pub finishesAll : Drive
 finishesAll (Message m buf) t = engine (Message m buf) t
 finishesAll (Start unit) t = engine (Start unit) t
-finishesAll (Finish arrival status sense transferred buf) t = out (finishOf t arrival status sense transferred (length buf) .table) (answer.Status 0 status sense) 0
+finishesAll (Finish arrival status sense transferred buf) t = out (finishOf t arrival status sense transferred (length buf) .table) (answer.Reply (reply.Status 0 status sense)) 0
 finishesAll TotalReset t = engine TotalReset t
 
 -- a start loses the tasks
@@ -126,13 +139,40 @@ inventsLive ev t = withTable (engine ev t) (allLive (engine ev t .table))
 
 -- none of them meets demand 3
 pub record WrongDrives : Type 0 where
-  pub not-echoes : Demand3 (ByDrive echoes) → ⊥
   pub not-by-tag : Demand3 (ByDrive goesByTag) → ⊥
   pub not-numbers-anew : Demand3 (ByDrive numbersAnew) → ⊥
   pub not-finishes-all : Demand3 (ByDrive finishesAll) → ⊥
   pub not-loses : Demand3 (ByDrive losesTasks) → ⊥
   pub not-at-finish : Demand3 (ByDrive endsAtFinish) → ⊥
   pub not-invents : Demand3 (ByDrive inventsLive) → ⊥
+
+-- ---- drives that work at the first call and afterwards only echo
+
+-- a drive that remembers: what it hands back for what was told so far, an event and the table handed in
+abbrev pub Remembering : Type 0
+Remembering = List Told → Event → Table → Outcome
+
+unfoldable pub callsBy : Remembering → List Told → Table → List Event → List Call
+callsBy d h t [] = []
+callsBy d h t (ev ∷ evs) =
+    record { event = ev; outcome = d h ev t; left = leftAfter ev (d h ev t .answer) }
+    ∷ callsBy d (h ++ (record { event = ev; answer = d h ev t .answer } ∷ [])) (d h ev t .table) evs
+
+-- what demand 3 says of its calls after every setup
+abbrev pub Meets : Remembering → Type 0
+Meets d = (ids : List ℕ) (attached first : ℕ) (evs : List Event) → first < 2 ^ 64
+    → let t = setupOf ids attached first .table in Agrees ids (told (callsBy d [] t evs)) (lastTable t (callsBy d [] t evs))
+
+-- its first call is the engine's; every later one hands back the table handed in
+pub record Echoes (d : Remembering) : Type 0 where
+  pub works : (ev : Event) (t : Table) → d [] ev t ≡ engine ev t
+  pub echo : (x : Told) (h : List Told) (ev : Event) (t : Table) → d (x ∷ h) ev t .table ≡ t
+
+-- those that go on answering as demand 2 has it for the table handed in break demand 3; those that refuse every later call meet it
+pub record Echoing : Type 0 where
+  pub breaks : (d : Remembering) → Echoes d → ((x : Told) (h : List Told) (ev : Event) (t : Table) → d (x ∷ h) ev t .answer ≡ engine ev t .answer) → Meets d → ⊥
+  pub meets : (d : Remembering) → Echoes d
+      → ((x : Told) (h : List Told) (ev : Event) (t : Table) → (n : Refusal) × (d (x ∷ h) ev t .answer ≡ answer.Refused n)) → Meets d
 
 -- ---- what demand 3 alone does not refuse: a drive that refuses every call. Demand 2 does, at example c.
 

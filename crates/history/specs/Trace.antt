@@ -10,6 +10,8 @@ use Rattle.wire.specs.Paper
 use Rattle.wire.specs.Messages.{readOf}
 use Rattle.wire.specs.declared.codes.StatusByte.{StatusByte}
 use Rattle.wire.specs.declared.codes.Sense.{Sense}
+use Rattle.reply.specs.declared.Reply.{Reply}
+use Rattle.reply.specs.declared.Reply.the-variants as reply
 use Rattle.task.specs.Index.{first}
 use Rattle.task.specs.Tasks.{acceptedAs, runs, awaits, restarts}
 use Rattle.task.specs.Selections.{picks, everyTask, numberedAs}
@@ -17,7 +19,7 @@ use Rattle.task.specs.declared.Kind.{Kind}
 use Rattle.task.specs.declared.Task.{Task}
 use Rattle.task.specs.declared.select.Selection.{Selection}
 use Rattle.rules.specs.Management.{endsOf}
-use Rattle.plan.specs.Plans.{askedOf, kindOf}
+use Rattle.plan.specs.Plans.{askedOf, kindOf, replyOf}
 use Rattle.rules.specs.declared.manage.Order.{Order}
 use Rattle.rules.specs.declared.manage.Order.the-variants.{AbortTask, AbortTaskSet, ClearTaskSet, ClearAca, UnitReset, TargetReset}
 use Rattle.plan.specs.declared.Request.the-variants.{Command, Manage, Confirm}
@@ -119,9 +121,7 @@ placeIn ids id = first (length ids) (λ p. eqb (getD ids p 0) id)
 abbrev pub commandEffect : ℕ → ℕ → ℕ → Kind → Bool → Answer → Effect
 commandEffect p tag lun kind confirm answer.Ready = Nothing
 commandEffect p tag lun kind confirm (answer.Accepted n) = Accepts (acceptedAs n p tag lun kind confirm)
-commandEffect p tag lun kind confirm (answer.Response t code) = Nothing
-commandEffect p tag lun kind confirm (answer.Status t status sense) = Nothing
-commandEffect p tag lun kind confirm (answer.Invalid t) = Nothing
+commandEffect p tag lun kind confirm (answer.Reply r) = Nothing
 commandEffect p tag lun kind confirm (answer.Started offset n) = Nothing
 commandEffect p tag lun kind confirm (answer.Confirmed n) = Nothing
 commandEffect p tag lun kind confirm (answer.Restarted n) = Nothing
@@ -129,44 +129,38 @@ commandEffect p tag lun kind confirm answer.Reset = Nothing
 commandEffect p tag lun kind confirm (answer.Refused n) = Nothing
 
 -- an order ends what it selects where it is answered by RESPONSE 00h
-abbrev pub orderEffect : ℕ → Order → Answer → Effect
-orderEffect p o answer.Ready = Nothing
-orderEffect p o (answer.Accepted n) = Nothing
-orderEffect p o (answer.Response t code) = cond (eqb (code .0) (Paper.done .0)) (Ends (endsOf p o) (byOrder o)) Nothing
-orderEffect p o (answer.Status t status sense) = Nothing
-orderEffect p o (answer.Invalid t) = Nothing
-orderEffect p o (answer.Started offset n) = Nothing
-orderEffect p o (answer.Confirmed n) = Nothing
-orderEffect p o (answer.Restarted n) = Nothing
-orderEffect p o answer.Reset = Nothing
-orderEffect p o (answer.Refused n) = Nothing
+abbrev pub orderReplied : ℕ → Order → Option Reply → Effect
+orderReplied p o none = Nothing
+orderReplied p o (some (reply.Response t code)) = cond (eqb (code .0) (Paper.done .0)) (Ends (endsOf p o) (byOrder o)) Nothing
+orderReplied p o (some (reply.Status t status sense)) = Nothing
+orderReplied p o (some (reply.Invalid t)) = Nothing
 
--- CONFIRM STATUS from the path at p ends the command with its tag and the number that the answer names, or has it wait again at the offset
-abbrev pub confirmEffect : ℕ → ℕ → ℕ → Answer → Effect
-confirmEffect p tag offset answer.Ready = Nothing
-confirmEffect p tag offset (answer.Accepted n) = Nothing
-confirmEffect p tag offset (answer.Response t code) = Nothing
-confirmEffect p tag offset (answer.Status t status sense) = Nothing
-confirmEffect p tag offset (answer.Invalid t) = Nothing
-confirmEffect p tag offset (answer.Started o n) = Nothing
-confirmEffect p tag offset (answer.Confirmed n) = Ends (numberedAs n p tag) byStatus
-confirmEffect p tag offset (answer.Restarted n) = Restarts (numberedAs n p tag) offset
-confirmEffect p tag offset answer.Reset = Nothing
-confirmEffect p tag offset (answer.Refused n) = Nothing
+abbrev pub orderEffect : ℕ → Order → Answer → Effect
+orderEffect p o a = orderReplied p o (replyOf a)
+
+-- CONFIRM STATUS from the path at p names its command by the tag and the number in the answer: with COMPLETE set `confirmed` ends it,
+-- with COMPLETE clear `restarted` has it wait again at the offset
+abbrev pub confirmEffect : ℕ → ℕ → ℕ → Bool → Answer → Effect
+confirmEffect p tag offset complete answer.Ready = Nothing
+confirmEffect p tag offset complete (answer.Accepted n) = Nothing
+confirmEffect p tag offset complete (answer.Reply r) = Nothing
+confirmEffect p tag offset complete (answer.Started o n) = Nothing
+confirmEffect p tag offset complete (answer.Confirmed n) = cond complete (Ends (numberedAs n p tag) byStatus) Nothing
+confirmEffect p tag offset complete (answer.Restarted n) = cond complete Nothing (Restarts (numberedAs n p tag) offset)
+confirmEffect p tag offset complete answer.Reset = Nothing
+confirmEffect p tag offset complete (answer.Refused n) = Nothing
 
 abbrev pub messageEffect : List ℕ → Asked → Answer → Effect
 messageEffect ids (Unread n) a = Nothing
 messageEffect ids (By path tag (Command lun flags)) a = commandEffect (placeIn ids path) tag lun (kindOf (flags .queue)) (flags .confirm) a
 messageEffect ids (By path tag (Manage o)) a = orderEffect (placeIn ids path) o a
-messageEffect ids (By path tag (Confirm offset complete)) a = confirmEffect (placeIn ids path) tag offset a
+messageEffect ids (By path tag (Confirm offset complete)) a = confirmEffect (placeIn ids path) tag offset complete a
 
 -- a start starts the command whose number the answer names
 abbrev pub startEffect : Answer → Effect
 startEffect answer.Ready = Nothing
 startEffect (answer.Accepted n) = Nothing
-startEffect (answer.Response t code) = Nothing
-startEffect (answer.Status t status sense) = Nothing
-startEffect (answer.Invalid t) = Nothing
+startEffect (answer.Reply r) = Nothing
 startEffect (answer.Started offset n) = Starts n
 startEffect (answer.Confirmed n) = Nothing
 startEffect (answer.Restarted n) = Nothing
@@ -174,25 +168,20 @@ startEffect answer.Reset = Nothing
 startEffect (answer.Refused n) = Nothing
 
 -- a finish that is answered by a STATUS finishes the command with the number that it names. The engine answers so where that command runs; the trace takes the STATUS at its word
+abbrev pub finishReplied : ℕ → ℕ → Option Reply → Effect
+finishReplied arrival transferred none = Nothing
+finishReplied arrival transferred (some (reply.Response t code)) = Nothing
+finishReplied arrival transferred (some (reply.Status t status sense)) = Finishes arrival transferred
+finishReplied arrival transferred (some (reply.Invalid t)) = Nothing
+
 abbrev pub finishEffect : ℕ → ℕ → Answer → Effect
-finishEffect arrival transferred answer.Ready = Nothing
-finishEffect arrival transferred (answer.Accepted n) = Nothing
-finishEffect arrival transferred (answer.Response t code) = Nothing
-finishEffect arrival transferred (answer.Status t status sense) = Finishes arrival transferred
-finishEffect arrival transferred (answer.Invalid t) = Nothing
-finishEffect arrival transferred (answer.Started offset n) = Nothing
-finishEffect arrival transferred (answer.Confirmed n) = Nothing
-finishEffect arrival transferred (answer.Restarted n) = Nothing
-finishEffect arrival transferred answer.Reset = Nothing
-finishEffect arrival transferred (answer.Refused n) = Nothing
+finishEffect arrival transferred a = finishReplied arrival transferred (replyOf a)
 
 -- a total reset that is answered by `reset` ends every command
 abbrev pub resetEffect : Answer → Effect
 resetEffect answer.Ready = Nothing
 resetEffect (answer.Accepted n) = Nothing
-resetEffect (answer.Response t code) = Nothing
-resetEffect (answer.Status t status sense) = Nothing
-resetEffect (answer.Invalid t) = Nothing
+resetEffect (answer.Reply r) = Nothing
 resetEffect (answer.Started offset n) = Nothing
 resetEffect (answer.Confirmed n) = Nothing
 resetEffect (answer.Restarted n) = Nothing

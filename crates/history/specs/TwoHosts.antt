@@ -14,7 +14,7 @@ use Rattle.engine.specs.Calls.{setupOf}
 use Rattle.rules.specs.declared.manage.Order.the-variants.{AbortTask}
 use Rattle.history.specs.Trace.{Event, Message, Start, Finish, Label, byStatus, byOrder}
 use Rattle.history.specs.Ledger.{Entry, ledger}
-use Rattle.history.specs.Demand.{told}
+use Rattle.history.specs.Demand.{told, lastTable, Agrees}
 use Rattle.history.specs.Drives.{engine, callsOf}
 
 -- the hosts' ids; unit 0 alone; the first arrival number is 1
@@ -72,10 +72,15 @@ written arrival p phase confirm transferred = record {
 abbrev pub entry : Task → ℕ → ℕ → Label → Entry
 entry a accepted event how = record { task = a; accepted = accepted; endings = record { event = event; how = how } ∷ [] }
 
+-- the ledger of the engine's calls on some events is this one, and the last table agrees with it
+pub record Ledgered (evs : List Event) (entries : List Entry) : Type 0 where
+  pub entered : ledger hosts (told (callsOf engine fresh evs)) ≡ entries
+  pub agrees : Agrees hosts (told (callsOf engine fresh evs)) (lastTable fresh (callsOf engine fresh evs))
+
 -- host 1's write was accepted by event 3 and ended by event 5, its own abort; host 2's was accepted by event 4 and ended by event 8, its status
 abbrev pub TwoHostsLedger : Type 0
 TwoHostsLedger =
-    _≡_ {A = List Entry} (ledger hosts (told (callsOf engine fresh twoHosts)))
+    Ledgered twoHosts
     (entry (written 1 0 Waiting false 0) 3 5 (byOrder (AbortTask 1)) ∷ entry (written 2 1 Running false 0) 4 8 byStatus ∷ [])
 
 -- both write with CONFIRM under tag 0001h; host 1's is finished after 512 bytes; host 2 aborts its own, and once more, and would confirm; host 1 confirms
@@ -87,5 +92,5 @@ confirmedTwoHosts =
 -- host 1's write was accepted by event 3 and ended by event 10, its confirmation, not by event 6, its finish; host 2's was accepted by event 4 and ended by event 7, its own abort
 abbrev pub ConfirmedLedger : Type 0
 ConfirmedLedger =
-    _≡_ {A = List Entry} (ledger hosts (told (callsOf engine fresh confirmedTwoHosts)))
+    Ledgered confirmedTwoHosts
     (entry (written 1 0 Unconfirmed true 512) 3 10 byStatus ∷ entry (written 2 1 Waiting true 0) 4 7 (byOrder (AbortTask 1)) ∷ [])
