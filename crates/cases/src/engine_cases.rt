@@ -14,13 +14,11 @@ use crate::print::text;
 use engine::Outcome;
 use engine::calls::command_block;
 use plan::Answer;
+use reply::Reply;
 use table::LAST_ARRIVAL;
 use table::Table;
-use task::Phase;
 use task::scan::Pick;
-use task::select::Place;
 use task::select::Selection;
-use task::select::Stage;
 use wire::codes::ReturnCode;
 use wire::codes::Sense;
 use wire::codes::StatusByte;
@@ -64,6 +62,14 @@ fn say_invalid(tag: u16) {
     hex_word(tag);
 }
 
+fn say_reply(r: Reply) {
+    match r {
+        Reply::Response { tag, code } => say_response(tag, code),
+        Reply::Status { tag, status, sense } => say_status(tag, status, sense),
+        Reply::Invalid { tag } => say_invalid(tag),
+    }
+}
+
 // A start in the words of a transcript, and the offset that is handed back.
 fn say_started(arrival: u64, offset: u32) {
     counted(b"started ", arrival);
@@ -75,9 +81,7 @@ fn say(a: Answer) {
     match a {
         Answer::Ready => text(b"ready"),
         Answer::Accepted(n) => counted(b"accepted ", n),
-        Answer::Response { tag, code } => say_response(tag, code),
-        Answer::Status { tag, status, sense } => say_status(tag, status, sense),
-        Answer::Invalid { tag } => say_invalid(tag),
+        Answer::Reply(r) => say_reply(r),
         Answer::Started { offset, arrival } => say_started(arrival, offset),
         Answer::Confirmed(n) => counted(b"confirmed ", n),
         Answer::Restarted(n) => counted(b"restarted ", n),
@@ -225,16 +229,6 @@ fn reset(t: Table, c: &[u8]) -> Table {
     told(engine::calls::total_reset(t))
 }
 
-// The waiting tasks on a unit.
-fn waiting_on(unit: u8) -> Selection {
-    let all = Selection::ALL;
-    Selection {
-        place: Place::On(unit),
-        stage: Stage::Now(Phase::Waiting),
-        ..all
-    }
-}
-
 // A task's arrival number and the place of its record.
 fn say_pick(p: Pick) {
     if !p.found {
@@ -252,7 +246,7 @@ fn next(t: Table, c: &[u8]) {
     if !has(c, 1) {
         return;
     }
-    say_pick(t.pick(waiting_on(byte_at(c, 0))));
+    say_pick(t.pick(Selection::waiting_on(byte_at(c, 0))));
 }
 
 // Letter ?: the table.

@@ -7,5 +7,6 @@ pub mod Replies
 pub mod Keeps
 pub mod Confirming
 pub mod Abort
+pub mod Past
 pub mod Outcomes
 mod Calling

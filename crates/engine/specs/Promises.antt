@@ -2,12 +2,13 @@
 use Prim.Native.Nat.{ℕ, _<_, _≤_, _^_}
 use mathlib.Core.Path.{_≡_}
 use mathlib.Core.Bool.{Bool, true, false}
-use mathlib.Core.List.{List}
+use mathlib.Core.List.{List, _++_}
 use mathlib.Core.Option.{none, some}
 use lib.ListN.{length}
 use Rattle.wire.specs.Paper.{replyRoom}
 use Rattle.wire.specs.Messages.{readOf}
 use Rattle.wire.specs.Block.{blockLength, cutShort, noBlock}
+use Rattle.wire.specs.Promises.{Whole}
 use Rattle.wire.specs.declared.codes.Refusal.{Refusal}
 use Rattle.wire.specs.declared.codes.StatusByte.{StatusByte}
 use Rattle.wire.specs.declared.codes.Sense.{Sense}
@@ -27,6 +28,7 @@ use Rattle.table.specs.declared.Table.{Table}
 use Rattle.plan.specs.Plans.{askedOf, replyOf}
 use Rattle.plan.specs.declared.Request.the-variants.{Confirm}
 use Rattle.plan.specs.declared.Asked.the-variants.{By}
+use Rattle.plan.specs.declared.Answer.{Answer}
 use Rattle.plan.specs.declared.Answer.the-variants as answer
 use Rattle.engine.specs.Calls.{messageOf, startOf, finishOf, totalResetOf, setupOf, mayGo, replied, handedOver}
 use Rattle.engine.specs.Calls.{SetupContract, MessageContract, StartContract, FinishContract, TotalResetContract}
@@ -117,6 +119,13 @@ pub record ConfirmsItsOwn : Type 0 where
       → Good t → MessageContract t m buf o left → askedOf (readOf m) ≡ By path tag (Confirm offset complete) → o .answer ≡ answer.Restarted arrival
       → (complete ≡ false) × (i : ℕ) × (a : Task) × Awaited t path tag arrival i a × (offset ≤ a .transferred) × (at (o .table) i ≡ some (restarts offset a))
       × OnlyRecord i t (o .table) × (left ≡ buf)
+
+-- ---- bytes past the specified length are not read
+
+-- whatever comes after a whole message, the outcome is the same; and whatever comes after a whole command block, the same block is handed over
+pub record PastIsNotRead : Type 0 where
+  pub outcome : (t : Table) (m rest : List ℕ) (n : ℕ) → Whole m → messageOf t (m ++ rest) n ≡ messageOf t m n
+  pub command-block : (m rest : List ℕ) (a : Answer) → cutShort m ≡ false → handedOver (m ++ rest) a ≡ handedOver m a
 
 -- ---- every call keeps a table sound, and setup's is
 

@@ -50,22 +50,8 @@ pub(crate) fn add(t: Tally, a: Answer, reply: &[u8; 64]) -> Tally {
             accepted: wrapping_add_u64(t.accepted, 1),
             ..t
         },
-        Answer::Response { tag: _, code: _ } => response(t, reply[4]),
-        Answer::Ready => t,
-        Answer::Status {
-            tag: _,
-            status: _,
-            sense: _,
-        } => t,
-        Answer::Invalid { tag: _ } => t,
-        Answer::Started {
-            offset: _,
-            arrival: _,
-        } => t,
-        Answer::Confirmed(_) => t,
-        Answer::Restarted(_) => t,
-        Answer::Reset => t,
-        Answer::Refused(_) => t,
+        Answer::Reply(_) => response(t, reply[4]),
+        _ => t,
     }
 }
 

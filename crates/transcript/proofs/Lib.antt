@@ -11,3 +11,4 @@ mod Playing
 mod Whole
 pub mod Promises
 pub mod Unique
+mod Refusals

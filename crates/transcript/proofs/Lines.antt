@@ -11,9 +11,10 @@ use native.Mathlib.Nat.{pow-suc, div-lt-iff-lt-mul}
 use native.Mathlib.Numerals.{add-one}
 use native.Mathlib.Omega.{arith}
 use borrow.Author.Tests.{lt-ltb, le-ltb}
+use Rattle.reply.specs.declared.Reply.{Reply}
 use Rattle.plan.specs.declared.Answer.{Answer}
 use Rattle.transcript.specs.Lines
-use Rattle.transcript.specs.Lines.{pushed, pushAll, decimalIn, decimalOf, answerText, handedOf, handedIn, Handed}
+use Rattle.transcript.specs.Lines.{pushed, pushAll, decimalIn, decimalOf, replyText, answerText, handedOf, handedIn, Handed}
 use Rattle.transcript.specs.declared.line.Line.{Line}
 
 -- bytes after bytes are put in one go
@@ -93,17 +94,19 @@ two-texts l a b p q = q ∙ rw p (push-append l a b)
 pub three-texts : (l : Line) (a b c : List ℕ) {m n r : Line} → m ≡ pushAll l a → n ≡ pushAll m b → r ≡ pushAll n c → r ≡ pushAll l (a ++ (b ++ c))
 three-texts l a b c p q e = two-texts l a (b ++ c) p (two-texts _ b c q e)
 
--- ---- what an answer says
+-- ---- what an answer or a reply says: the text of the value that a match found, and such a text in two parts
 
-module _ (l : Line) {a : Answer} where
-  pub says : {b : Answer} {r : Line} → a ≡ b → r ≡ pushAll l (answerText b) → r ≡ pushAll l (answerText a)
-  says e p = rw e p
+pub says-answer : (l : Line) {a b : Answer} {r : Line} → a ≡ b → r ≡ pushAll l (answerText b) → r ≡ pushAll l (answerText a)
+says-answer l e p = rw e p
 
-  -- in two parts
-  pub says-both : {b : Answer} (x y : List ℕ) {m r : Line} → a ≡ b → m ≡ pushAll l x → r ≡ pushAll m y → x ++ y ≡ answerText b → r ≡ pushAll l (answerText a)
+module _ (l : Line) {a : Reply} where
+  pub says-reply : {b : Reply} {r : Line} → a ≡ b → r ≡ pushAll l (replyText b) → r ≡ pushAll l (replyText a)
+  says-reply e p = rw e p
+
+  pub says-both : {b : Reply} (x y : List ℕ) {m r : Line} → a ≡ b → m ≡ pushAll l x → r ≡ pushAll m y → x ++ y ≡ replyText b → r ≡ pushAll l (replyText a)
   says-both x y e p q t = rw (e, ← t) (two-texts l x y p q)
 
-pub ruleset answer-cases = (says-both, says)
+pub ruleset reply-cases = (says-both, says-reply)
 
 -- ---- whole lines
 

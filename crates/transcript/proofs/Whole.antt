@@ -14,8 +14,11 @@ use borrow.Author.Tests.{lt-ltb, le-ltb}
 use Rattle.task.specs.Map.{liveCount}
 use Rattle.wire.proofs.Table.{cond-ind}
 use Rattle.plan.specs.declared.Answer.{Answer}
-use Rattle.plan.specs.declared.Answer.the-variants.{Ready, Accepted, Response, Status, Invalid, Started, Confirmed, Restarted, Reset, Refused}
-use Rattle.transcript.specs.Lines.{emptyLine, pushed, pushAll, decimalIn, answerText, lineOf, handedOf, handedIn, Handed}
+use Rattle.reply.specs.declared.Reply.{Reply}
+use Rattle.reply.specs.declared.Reply.the-variants.{Response, Status, Invalid}
+use Rattle.plan.specs.declared.Answer.the-variants as answer
+use Rattle.plan.specs.declared.Answer.the-variants.{Ready, Accepted, Started, Confirmed, Restarted, Reset, Refused}
+use Rattle.transcript.specs.Lines.{emptyLine, pushed, pushAll, decimalIn, replyText, answerText, lineOf, handedOf, handedIn, Handed}
 use Rattle.transcript.specs.Playing.{turned, turnText, stepOf, lineLeft, Advances, lastText, lastLine}
 use Rattle.transcript.specs.Promises.{Whole, Leaves}
 use Rattle.transcript.specs.declared.line.Line.{Line}
@@ -54,13 +57,17 @@ decimal-short (suc k) n =
     cond-ind (λ (ds : List ℕ). length ds ≤ suc k) (ltb n 10) (λ t. omega arith)
     (λ t. simp length-append (omega (arith, decimal-short k (n / 10))))
 
+reply-short : (r : Reply) → length (replyText r) ≤ 31
+unfolding replyText
+reply-short (Response tag code) = omega arith
+reply-short (Status tag status sense) = omega arith
+reply-short (Invalid tag) = omega arith
+
 text-short : (a : Answer) → length (answerText a) ≤ 31
 unfolding answerText
 text-short Ready = omega arith
 text-short (Accepted n) = omega (arith, decimal-short 20 n)
-text-short (Response tag code) = omega arith
-text-short (Status tag status sense) = omega arith
-text-short (Invalid tag) = omega arith
+text-short (answer.Reply r) = reply-short r
 text-short (Started offset arrival) = omega (arith, decimal-short 20 arrival)
 text-short (Confirmed n) = omega (arith, decimal-short 20 n)
 text-short (Restarted n) = omega (arith, decimal-short 20 n)

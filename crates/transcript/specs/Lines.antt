@@ -6,8 +6,11 @@ use mathlib.Core.Bool.{cond, _||_}
 use lib.ListN.{length, set, replicate, take, drop}
 use lib.Dec.{ltb}
 use Rattle.wire.specs.declared.codes.Sense.{Sense}
+use Rattle.reply.specs.declared.Reply.{Reply}
+use Rattle.reply.specs.declared.Reply.the-variants.{Response, Status, Invalid}
 use Rattle.plan.specs.declared.Answer.{Answer}
-use Rattle.plan.specs.declared.Answer.the-variants.{Ready, Accepted, Response, Status, Invalid, Started, Confirmed, Restarted, Reset, Refused}
+use Rattle.plan.specs.declared.Answer.the-variants as answer
+use Rattle.plan.specs.declared.Answer.the-variants.{Ready, Accepted, Started, Confirmed, Restarted, Reset, Refused}
 use Rattle.transcript.specs.declared.line.Line.{Line}
 
 -- ---- words, in ASCII
@@ -94,14 +97,17 @@ hexWord w = space ∷ digitOf (w / 256 / 16 % 16) ∷ digitOf (w / 256 % 16) ∷
 abbrev pub senseText : Sense → List ℕ
 senseText s = hexOf (s .key) ++ (hexOf (s .code) ++ hexOf (s .qualifier))
 
+-- a reply: `response` tag code, `status` tag status key code qualifier, `invalid` tag
+unfoldable pub replyText : Reply → List ℕ
+replyText (Response tag code) = responseWord ++ (hexWord tag ++ hexOf (code .0))
+replyText (Status tag status sense) = statusWord ++ (hexWord tag ++ (hexOf (status .0) ++ senseText sense))
+replyText (Invalid tag) = invalidWord ++ hexWord tag
+
 -- what stands behind the event's number
 unfoldable pub answerText : Answer → List ℕ
 answerText Ready = []
 answerText (Accepted n) = acceptedWord ++ decimalOf n
-answerText (Response tag code) = responseWord ++ (hexWord tag ++ hexOf (code .0))
-answerText (Status tag status sense) =
-    statusWord ++ (hexWord tag ++ (hexOf (status .0) ++ senseText sense))
-answerText (Invalid tag) = invalidWord ++ hexWord tag
+answerText (answer.Reply r) = replyText r
 answerText (Started offset arrival) = startedWord ++ decimalOf arrival
 answerText (Confirmed n) = confirmedWord ++ decimalOf n
 answerText (Restarted n) = restartedWord ++ decimalOf n

@@ -47,9 +47,7 @@ isPlaying state.Refused = false
 abbrev pub isRefused : Answer → Bool
 isRefused answer.Ready = false
 isRefused (answer.Accepted n) = false
-isRefused (answer.Response tag code) = false
-isRefused (answer.Status tag status sense) = false
-isRefused (answer.Invalid tag) = false
+isRefused (answer.Reply r) = false
 isRefused (answer.Started offset arrival) = false
 isRefused (answer.Confirmed n) = false
 isRefused (answer.Restarted n) = false

@@ -3,9 +3,10 @@ ghost use mathlib.Core.Path.{_≡_};
 ghost use Prim.Native.Nat.{_%_};
 ghost use mathlib.Core.List.{_++_};
 ghost use Rattle.wire.specs.Paper;
-ghost use Rattle.transcript.specs.Lines.{emptyLine, pushed, pushAll, decimalOf, digitOf, hexOf, hexWord, senseText, answerText, lineOf, endOk, Handed};
+ghost use Rattle.transcript.specs.Lines.{emptyLine, pushed, pushAll, decimalOf, digitOf, hexOf, hexWord, senseText, replyText, answerText, lineOf, endOk, Handed};
 ghost use Rattle.transcript.specs.Text.{endOf};
 use plan::Answer;
+use reply::Reply;
 use wire::codes::Sense;
 
 pub struct Line {
@@ -103,10 +104,24 @@ fn push_number(l: Line, word: &[u8], n: u64) -> Line
 }
 
 // A word, a tag and a code or status.
-fn push_reply(l: Line, word: &[u8], tag: u16, b: u8) -> Line
+fn push_coded(l: Line, word: &[u8], tag: u16, b: u8) -> Line
     ensures { λ r. ⌜ r ≡ pushAll l (now (word .entry) ++ (hexWord tag ++ hexOf b)) ⌝ }
 {
     push_hex(push_tag(push_word(l, word), tag), b)
+}
+
+// What a reply says.
+fn push_reply(l: Line, r: Reply) -> Line
+    ensures { λ o. ⌜ o ≡ pushAll l (replyText r) ⌝ }
+{
+    match r {
+        Reply::Response { tag, code } => push_coded(l, b" response", tag, code.0),
+        Reply::Status { tag, status, sense } => push_sense(
+            push_coded(l, b" status", tag, status.0),
+            sense,
+        ),
+        Reply::Invalid { tag } => push_tag(push_word(l, b" invalid"), tag),
+    }
 }
 
 // What an answer says behind the event's number.
@@ -116,12 +131,7 @@ fn push_answer(l: Line, a: Answer) -> Line
     match a {
         Answer::Ready => l,
         Answer::Accepted(n) => push_number(l, b" accepted ", n),
-        Answer::Response { tag, code } => push_reply(l, b" response", tag, code.0),
-        Answer::Status { tag, status, sense } => push_sense(
-            push_reply(l, b" status", tag, status.0),
-            sense,
-        ),
-        Answer::Invalid { tag } => push_tag(push_word(l, b" invalid"), tag),
+        Answer::Reply(r) => push_reply(l, r),
         Answer::Started { offset: _, arrival } => push_number(l, b" started ", arrival),
         Answer::Confirmed(n) => push_number(l, b" confirmed ", n),
         Answer::Restarted(n) => push_number(l, b" restarted ", n),

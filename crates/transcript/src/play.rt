@@ -78,23 +78,8 @@ fn is_refused(answer: Answer) -> bool
     ensures { λ r. ⌜ r ≡ isRefused answer ⌝ }
 {
     match answer {
-        Answer::Ready => false,
-        Answer::Accepted(_) => false,
-        Answer::Response { tag: _, code: _ } => false,
-        Answer::Status {
-            tag: _,
-            status: _,
-            sense: _,
-        } => false,
-        Answer::Invalid { tag: _ } => false,
-        Answer::Started {
-            offset: _,
-            arrival: _,
-        } => false,
-        Answer::Confirmed(_) => false,
-        Answer::Restarted(_) => false,
-        Answer::Reset => false,
         Answer::Refused(_) => true,
+        _ => false,
     }
 }
 

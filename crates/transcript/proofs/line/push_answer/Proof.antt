@@ -1,7 +1,7 @@
--- `transcript::line::push_answer` meets its contract. Assumes nothing.
-use Rattle.transcript.specs.Lines.{pushAll, answerText}
-use Rattle.transcript.proofs.Lines.{answer-cases}
+-- `line::push_answer` meets its contract. Assumes nothing.
 use borrow.Author.Needs.{needs}
+use Rattle.transcript.specs.Lines.{pushAll, answerText}
+use Rattle.transcript.proofs.Lines.{says-answer}
 use Rattle.transcript.proofs.line.push_answer.Statement.{statement}
 use Rattle.transcript.proofs.line.push_answer.Tie as tie
 
@@ -20,38 +20,11 @@ push-number-requires c κs = search needs
 enum-known-a-2 : tie.Need-enum-known-a-2
 enum-known-a-2 c = search needs
 
-slice-aggregate-push-reply : tie.Need-slice-aggregate-push-reply
-slice-aggregate-push-reply c = search needs
-
 push-reply-requires : tie.Need-push-reply-requires
 push-reply-requires c κs = search needs
 
 enum-known-a-3 : tie.Need-enum-known-a-3
 enum-known-a-3 c = search needs
-
-slice-aggregate-push-reply-2 : tie.Need-slice-aggregate-push-reply-2
-slice-aggregate-push-reply-2 c = search needs
-
-push-reply-requires-2 : tie.Need-push-reply-requires-2
-push-reply-requires-2 c κs = search needs
-
-push-sense-requires : tie.Need-push-sense-requires
-push-sense-requires c κs = search needs
-
-enum-known-a-4 : tie.Need-enum-known-a-4
-enum-known-a-4 c = search needs
-
-slice-aggregate-push-word : tie.Need-slice-aggregate-push-word
-slice-aggregate-push-word c = search needs
-
-push-word-requires : tie.Need-push-word-requires
-push-word-requires c κs = search needs
-
-push-tag-requires : tie.Need-push-tag-requires
-push-tag-requires c κs = search needs
-
-enum-known-a-5 : tie.Need-enum-known-a-5
-enum-known-a-5 c = search needs
 
 slice-aggregate-push-number-2 : tie.Need-slice-aggregate-push-number-2
 slice-aggregate-push-number-2 c = search needs
@@ -59,8 +32,8 @@ slice-aggregate-push-number-2 c = search needs
 push-number-requires-2 : tie.Need-push-number-requires-2
 push-number-requires-2 c κs = search needs
 
-enum-known-a-6 : tie.Need-enum-known-a-6
-enum-known-a-6 c = search needs
+enum-known-a-4 : tie.Need-enum-known-a-4
+enum-known-a-4 c = search needs
 
 slice-aggregate-push-number-3 : tie.Need-slice-aggregate-push-number-3
 slice-aggregate-push-number-3 c = search needs
@@ -68,8 +41,8 @@ slice-aggregate-push-number-3 c = search needs
 push-number-requires-3 : tie.Need-push-number-requires-3
 push-number-requires-3 c κs = search needs
 
-enum-known-a-7 : tie.Need-enum-known-a-7
-enum-known-a-7 c = search needs
+enum-known-a-5 : tie.Need-enum-known-a-5
+enum-known-a-5 c = search needs
 
 slice-aggregate-push-number-4 : tie.Need-slice-aggregate-push-number-4
 slice-aggregate-push-number-4 c = search needs
@@ -80,14 +53,14 @@ push-number-requires-4 c κs = search needs
 enum-told-2 : tie.Need-enum-told-2
 enum-told-2 c = search needs
 
-slice-aggregate-push-word-2 : tie.Need-slice-aggregate-push-word-2
-slice-aggregate-push-word-2 c = search needs
+slice-aggregate-push-word : tie.Need-slice-aggregate-push-word
+slice-aggregate-push-word c = search needs
 
-push-word-requires-2 : tie.Need-push-word-requires-2
-push-word-requires-2 c κs = search needs
+push-word-requires : tie.Need-push-word-requires
+push-word-requires c κs = search needs
 
-enum-known-a-8 : tie.Need-enum-known-a-8
-enum-known-a-8 c = search needs
+enum-known-a-6 : tie.Need-enum-known-a-6
+enum-known-a-6 c = search needs
 
 slice-aggregate-push-number-5 : tie.Need-slice-aggregate-push-number-5
 slice-aggregate-push-number-5 c = search needs
@@ -100,43 +73,35 @@ push-number-requires-5 c κs = search needs
 
 returns : tie.Need-returns
 unfolding answerText pushAll
-returns c = search answer-cases
+returns c = search says-answer
 
 returns-2 : tie.Need-returns-2
 unfolding answerText
-returns-2 c = search answer-cases
+returns-2 c = search says-answer
 
 returns-3 : tie.Need-returns-3
 unfolding answerText
-returns-3 c = search answer-cases
+returns-3 c = search says-answer
 
 returns-4 : tie.Need-returns-4
 unfolding answerText
-returns-4 c = search answer-cases
+returns-4 c = search says-answer
 
 returns-5 : tie.Need-returns-5
 unfolding answerText
-returns-5 c = search answer-cases
+returns-5 c = search says-answer
 
 returns-6 : tie.Need-returns-6
 unfolding answerText
-returns-6 c = search answer-cases
+returns-6 c = search says-answer
 
 returns-7 : tie.Need-returns-7
 unfolding answerText
-returns-7 c = search answer-cases
+returns-7 c = search says-answer
 
 returns-8 : tie.Need-returns-8
 unfolding answerText
-returns-8 c = search answer-cases
-
-returns-9 : tie.Need-returns-9
-unfolding answerText
-returns-9 c = search answer-cases
-
-returns-10 : tie.Need-returns-10
-unfolding answerText
-returns-10 c = search answer-cases
+returns-8 c = search says-answer
 
 pub push-answer-spec : {M : Type 1} → statement M
 push-answer-spec =
@@ -147,29 +112,20 @@ push-answer-spec =
     slice-aggregate-push-number
     push-number-requires
     enum-known-a-2
-    slice-aggregate-push-reply
     push-reply-requires
     enum-known-a-3
-    slice-aggregate-push-reply-2
-    push-reply-requires-2
-    push-sense-requires
-    enum-known-a-4
-    slice-aggregate-push-word
-    push-word-requires
-    push-tag-requires
-    enum-known-a-5
     slice-aggregate-push-number-2
     push-number-requires-2
-    enum-known-a-6
+    enum-known-a-4
     slice-aggregate-push-number-3
     push-number-requires-3
-    enum-known-a-7
+    enum-known-a-5
     slice-aggregate-push-number-4
     push-number-requires-4
     enum-told-2
-    slice-aggregate-push-word-2
-    push-word-requires-2
-    enum-known-a-8
+    slice-aggregate-push-word
+    push-word-requires
+    enum-known-a-6
     slice-aggregate-push-number-5
     cast-push-number
     push-number-requires-5
@@ -180,6 +136,4 @@ push-answer-spec =
     returns-5
     returns-6
     returns-7
-    returns-8
-    returns-9
-    returns-10)
+    returns-8)
