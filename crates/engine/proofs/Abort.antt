@@ -7,7 +7,7 @@ use mathlib.Core.Logic.{inl, inr}
 use lib.ListN.{length}
 use lib.Dec.{ltb}
 use borrow.Author.Tests.{le-ltb, ltb-true, eqb-true}
-use Rattle.wire.specs.Paper
+use Rattle.wire.specs.Codes
 use Rattle.wire.specs.Messages.{readOf, reservedSet}
 use Rattle.wire.specs.declared.message.Message.the-variants as message
 use Rattle.task.specs.Selections.{picks, named}
@@ -76,10 +76,10 @@ same-taken {path = path} {t = t} {u = u} g h a tag =
 -- ---- the answer, by the sender's place and whether it has the task
 
 abbrev response : List ℕ → ℕ → Bool → Answer
-response m tag taken = answer.Reply (reply.Response tag (cond (reservedSet m) Paper.invalidField (cond taken Paper.done Paper.taskNotFound)))
+response m tag taken = answer.Reply (reply.Response tag (cond (reservedSet m) Codes.invalidField (cond taken Codes.done Codes.taskNotFound)))
 
 abbrev abortAnswer : List ℕ → ℕ → ℕ → Bool → Answer
-abortAnswer m tag p taken = cond (ltb p 8) (response m tag taken) (answer.Refused Paper.unknownPath)
+abortAnswer m tag p taken = cond (ltb p 8) (response m tag taken) (answer.Refused Codes.unknownPath)
 
 module _ (t : Table) (m : List ℕ) (path tag tag2 : ℕ) where
   abbrev abort : Request

@@ -14,7 +14,7 @@ use lib.Dec.{eqb, leb, ltb}
 use denote.Enum.Declared.{tagOf}
 use types.Run.{OneOf, miss}
 use borrow.Author.Tests.{lt-ltb, le-ltb, le-leb, lt-leb, eq-eqb, ne-eqb}
-use Rattle.wire.specs.Paper
+use Rattle.wire.specs.Codes
 use Rattle.wire.specs.Messages.{readOf}
 use Rattle.wire.specs.declared.codes.Refusal.{Refusal}
 use Rattle.wire.specs.declared.codes.StatusByte.{StatusByte}
@@ -78,10 +78,10 @@ heard-all m e h = h ∙ rw e
 
 -- the plan for what the path at p asks
 module _ (s : Lookup) (next p tag : ℕ) (m : List ℕ) (w : Request) {pl : Plan} where
-  pub unlisted : 8 ≤ p → pl ≡ refusing Paper.unknownPath → pl ≡ cond (ltb p 8) (planOf s next p tag m w) (refusing Paper.unknownPath)
+  pub unlisted : 8 ≤ p → pl ≡ refusing Codes.unknownPath → pl ≡ cond (ltb p 8) (planOf s next p tag m w) (refusing Codes.unknownPath)
   unlisted h k = rw (le-ltb p 8 h) k
 
-  pub listed : p < 8 → pl ≡ planOf s next p tag m w → pl ≡ cond (ltb p 8) (planOf s next p tag m w) (refusing Paper.unknownPath)
+  pub listed : p < 8 → pl ≡ planOf s next p tag m w → pl ≡ cond (ltb p 8) (planOf s next p tag m w) (refusing Codes.unknownPath)
   listed h k = rw (lt-ltb p 8 h) k
 
 pub ruleset plan-ways = (unlisted, listed)
@@ -104,7 +104,7 @@ module _ (t : Table) (m : List ℕ) {a : Asked} {pl : Plan} where
   unread e h = rw e h
 
   pub read-by : {path tag p n u : ℕ} {b : Bool} {w : Request} {s : Lookup} → a ≡ By path tag w → p ≡ pathOf t path → n ≡ tagAsked tag w → u ≡ unitAsked w → b ≡ clearsSet w
-      → s ≡ lookupOf t p n u (cond b (othersOn t u p) 0) → pl ≡ cond (ltb p 8) (planOf s (t .next) p tag m w) (refusing Paper.unknownPath) → pl ≡ planHeard t m a
+      → s ≡ lookupOf t p n u (cond b (othersOn t u p) 0) → pl ≡ cond (ltb p 8) (planOf s (t .next) p tag m w) (refusing Codes.unknownPath) → pl ≡ planHeard t m a
   unfolding planHeard planFor planAt
   read-by {tag = tag} {w = w} e p n u b s h = h ∙ rw (e, s, others-alike t m _ tag (t .next) _ _ _ w b, n, u, p)
 
@@ -218,7 +218,7 @@ finishes t arrival x s transferred n e h = rw (h, e)
 -- ---- total reset and setup
 
 module _ (t : Table) {b : Bool} (e : b ≡ soundOf t) where
-  pub reset-refused : b ≡ false → refused t Paper.notSound ≡ totalResetOf t
+  pub reset-refused : b ≡ false → refused t Codes.notSound ≡ totalResetOf t
   unfolding totalResetOf
   reset-refused h = rw (← e, h)
 
@@ -229,7 +229,7 @@ module _ (t : Table) {b : Bool} (e : b ≡ soundOf t) where
 pub ruleset reset-ways = (reset-refused, resets)
 
 module _ (ids : List ℕ) (attached first : ℕ) {u : Table} {b : Bool} (e : u ≡ setupTable ids attached first) (h : b ≡ badList ids) where
-  pub setup-refused : b ≡ true → refused u Paper.badPaths ≡ setupOf ids attached first
+  pub setup-refused : b ≡ true → refused u Codes.badPaths ≡ setupOf ids attached first
   unfolding setupOf
   setup-refused k = rw (e, ← h, k)
 

@@ -4,7 +4,7 @@ use mathlib.Core.Path.{_≡_, sym, ap, _∙_}
 use mathlib.Core.List.{List, [], map}
 use native.Mathlib.Omega.{arith}
 use lib.ListN.{getD}
-use Rattle.wire.specs.Paper
+use Rattle.wire.specs.Codes
 use Rattle.table.specs.declared.Table.{Table}
 use Rattle.plan.specs.declared.Answer.{Answer}
 use Rattle.reply.specs.declared.Reply.the-variants.{Response, Status}
@@ -27,15 +27,15 @@ example-c : to quiet plain ≡ Accepted 1
 unfolding examples
 example-c = row 4
 
-example-e : to quiet resumed ≡ Reply (Response 5 (Paper.returnCode 0xff))
+example-e : to quiet resumed ≡ Reply (Response 5 (Codes.returnCode 0xff))
 unfolding examples
 example-e = row 6
 
-example-f : to full plain ≡ Reply (Status 5 (Paper.statusByte 0x28) Paper.noSense)
+example-f : to full plain ≡ Reply (Status 5 (Codes.statusByte 0x28) Codes.noSense)
 unfolding examples
 example-f = row 7
 
-example-f-again : to again plain ≡ Refused (Paper.refusal 4)
+example-f-again : to again plain ≡ Refused (Codes.refusal 4)
 unfolding examples
 example-f-again = row 8
 
@@ -50,12 +50,12 @@ wrong-drives d = (
       let e : Accepted 1 ≡ Refused (r .0) = sym example-c ∙ sym (answers d quiet plain c) ∙ r .1 in
       let z : _≡_ {A = ℕ} 0 1 = cc in omega arith,
   λ c r a one.
-      let same : Accepted 1 ≡ Reply (Response 5 (Paper.returnCode 0xff)) =
+      let same : Accepted 1 ≡ Reply (Response 5 (Codes.returnCode 0xff)) =
       sym example-c ∙ sym (answers d quiet plain c) ∙ one quiet plain buffer ∙ sym (one quiet resumed buffer) ∙ answers d quiet resumed r ∙ example-e in
       let z : _≡_ {A = ℕ} 0 1 = cc in omega arith,
   λ f stays.
       let same : again ≡ full = sym (ap (λ (o : Outcome). o .table) (f .outcome)) ∙ stays full plain buffer in
-      let e : Refused (Paper.refusal 4) ≡ Reply (Status 5 (Paper.statusByte 0x28) Paper.noSense) =
+      let e : Refused (Codes.refusal 4) ≡ Reply (Status 5 (Codes.statusByte 0x28) Codes.noSense) =
       sym example-f-again ∙ ap (λ (t : Table). to t plain) same ∙ example-f in
       let z : _≡_ {A = ℕ} 0 1 = cc in omega arith,
 )

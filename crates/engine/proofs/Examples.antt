@@ -4,7 +4,7 @@ use Rattle.wire.specs.Messages.{placeOf, fieldsOf, readOf, commandReserved, con
 use Rattle.wire.specs.Block.{cutShort, noBlock, linked}
 use Rattle.reply.specs.Replies.{writableOf, bytesOf}
 use Rattle.reply.specs.Calls.{leftOf}
-use Rattle.task.specs.Index.{first, some, all, mapOf, mapAt}
+use Rattle.task.specs.Index.{first, someBelow, allBelow, mapOf, mapAt}
 use Rattle.task.specs.Map.{lowestFree, withBit}
 use Rattle.task.specs.Selections.{picks}
 use Rattle.task.specs.Scan.{considered, scanFrom}
@@ -25,7 +25,7 @@ unfolding placeOf fieldsOf readOf commandReserved confirmReserved reservedSet cu
 bytes = tt
 
 unfoldable tables : Unit {0}
-unfolding first some all mapOf mapAt lowestFree withBit picks considered scanFrom zeroTable pathPlace anyLive pickOf hasRoom accepted endedBy alteredAt markedIn attentionGoneIn resetAttentionIn othersOn acaClearedIn finished badList freshPaths pathsOf freshTable setupTable countOk pathsDistinct unusedZero recordsOk unitsOk clashes soundOf
+unfolding first someBelow allBelow mapOf mapAt lowestFree withBit picks considered scanFrom zeroTable pathPlace anyLive pickOf hasRoom accepted endedBy alteredAt markedIn attentionGoneIn resetAttentionIn othersOn acaClearedIn finished badList freshPaths pathsOf freshTable setupTable countOk pathsDistinct unusedZero recordsOk unitsOk clashes soundOf
 tables = tt
 
 unfoldable answers : Unit {0}

@@ -6,7 +6,7 @@ use mathlib.Core.List.{List}
 use native.Mathlib.Omega.{arith}
 use lib.Dec.{eqb}
 use borrow.Author.Tests.{not-false, ltb-true, eq-eqb, eqb-true}
-use Rattle.wire.specs.Paper
+use Rattle.wire.specs.Codes
 use Rattle.wire.specs.Messages.{reservedSet}
 use Rattle.wire.specs.Block.{cutShort, noBlock}
 use Rattle.wire.specs.declared.codes.Queue.{Queue}
@@ -58,8 +58,8 @@ owned-by (Owned q) p e = ap Owned (eqb-true q p e)
 
 -- ---- a command that is accepted may come
 
-aca-asked : (q : Queue) → isAca (kindOf q) ≡ true → eqb (q .0) (Paper.queueAca .0) ≡ true
-aca-asked q = cases (eqb (q .0) (Paper.queueAca .0)) (eqb (q .0) (Paper.queueHead .0)) (eqb (q .0) (Paper.queueOrdered .0))
+aca-asked : (q : Queue) → isAca (kindOf q) ≡ true → eqb (q .0) (Codes.queueAca .0) ≡ true
+aca-asked q = cases (eqb (q .0) (Codes.queueAca .0)) (eqb (q .0) (Codes.queueHead .0)) (eqb (q .0) (Codes.queueOrdered .0))
   where
     cases : (b c d : Bool) → isAca (cond b kind.Aca (cond c kind.Head (cond d kind.Ordered kind.Simple))) ≡ true → b ≡ true
     cases true c d e = refl
@@ -117,7 +117,7 @@ owner-clears : (f : Facts) (m : List ℕ) (lun : ℕ) → orderCode f m (ClearAc
 unfolding orderCode
 owner-clears f m lun = cases (reservedSet m) (not (f .attached)) (f .owned)
   where
-    cases : (b c owned : Bool) → cond b Paper.invalidField (cond c Paper.invalidField (cond owned Paper.done Paper.noAca)) .0 ≡ 0 → owned ≡ true
+    cases : (b c owned : Bool) → cond b Codes.invalidField (cond c Codes.invalidField (cond owned Codes.done Codes.noAca)) .0 ≡ 0 → owned ≡ true
     cases true c owned e = absurd (omega arith)
     cases false true owned e = absurd (omega arith)
     cases false false true e = refl
@@ -192,7 +192,7 @@ module _ (t : Table) (g : Good t) (p : ℕ) (l : p < t .count) where
   unfolding carriedOut withRecords planAt lookupOf orderPlan
   plan-keeps m tag (Command lun flags) = ruling-keeps (t .next) tag lun flags _ (λ e. may-come t p tag lun flags m e (g .shaped) l)
   plan-keeps m tag (Manage o) =
-      cond-ind (λ (pl : Plan). Good (carriedOut t pl)) (eqb (orderCode (asked o) m o .0) (Paper.done .0)) (λ e. done-keeps m o (eqb-true _ _ e)) (λ _. g)
+      cond-ind (λ (pl : Plan). Good (carriedOut t pl)) (eqb (orderCode (asked o) m o .0) (Codes.done .0)) (λ e. done-keeps m o (eqb-true _ _ e)) (λ _. g)
   plan-keeps m tag (Confirm offset complete) =
       each-confirm (λ (pl : Plan). Good (carriedOut t pl)) (pickOf t (named p tag)) p tag m offset complete g g (λ _ _. end-keeps t _ g)
       (λ _ _ _. restart-keeps t _ offset g)

@@ -5,7 +5,7 @@ use mathlib.Core.Bool.{Bool, true, false, not}
 use mathlib.Core.List.{List}
 use lib.Dec.{ltb}
 use borrow.Author.Tests.{not-false, ltb-true, ltb-false}
-use Rattle.wire.specs.Paper
+use Rattle.wire.specs.Codes
 use Rattle.wire.specs.Messages.{readOf, reservedSet}
 use Rattle.wire.specs.declared.codes.Refusal.{Refusal}
 use Rattle.wire.specs.declared.codes.StatusByte.{StatusByte}
@@ -44,14 +44,14 @@ module _ (P : Outcome → Type 0) (t : Table) (stops : (n : Refusal) → P (refu
     unfolding answeredTo planFor carriedOut withRecords
     asked goes (Unread n) e = stops n
     asked goes (By path tag w) e =
-        cond-ind (λ (pl : Plan). P (carried t path pl)) (ltb (pathOf t path) 8) (λ l. goes path tag w e (ltb-true _ 8 l)) (λ _. stops Paper.unknownPath)
+        cond-ind (λ (pl : Plan). P (carried t path pl)) (ltb (pathOf t path) 8) (λ l. goes path tag w e (ltb-true _ 8 l)) (λ _. stops Codes.unknownPath)
 
     -- where the reply buffer has room
-    pub each-heard : (n : ℕ) → (Paper.replyRoom ≤ n → Carried) → P (messageOf t m n)
+    pub each-heard : (n : ℕ) → (Codes.replyRoom ≤ n → Carried) → P (messageOf t m n)
     unfolding messageOf heardOf answeredTo
     each-heard n goes =
         cond-ind Answered (not (soundOf t)) (λ _. stops _)
-        (λ _. cond-ind Answered (ltb n Paper.replyRoom) (λ _. stops _) (λ l. asked (goes (ltb-false n _ l)) (askedOf (readOf m)) refl))
+        (λ _. cond-ind Answered (ltb n Codes.replyRoom) (λ _. stops _) (λ l. asked (goes (ltb-false n _ l)) (askedOf (readOf m)) refl))
 
     pub each-message : Carried → (n : ℕ) → P (messageOf t m n)
     each-message goes n = each-heard n (λ _. goes)
@@ -77,14 +77,14 @@ module _ (P : Outcome → Type 0) (t : Table) (stops : (n : Refusal) → P (refu
         (answer.Reply (reply.Status (runningTask t arrival .tag) status (sentSense status s))) (pathAt t (runningTask t arrival .path) .id))
 
     -- where the reply buffer has room, and the device's status and sense key may be sent
-    pub each-sent : (Paper.replyRoom ≤ n → mayFinish status s ≡ true → pickOf t (runningAs arrival) .found ≡ true → Ended)
+    pub each-sent : (Codes.replyRoom ≤ n → mayFinish status s ≡ true → pickOf t (runningAs arrival) .found ≡ true → Ended)
         → P (finishOf t arrival status s transferred n)
     unfolding finishOf finishVerdict
     each-sent goes =
         let Q : Verdict → Type 0 = λ v. P (settled v (finished t (v .place) (failed status) transferred)) in
         let no : (n : Refusal) → Q (rejected n) = λ n. rw (finished-none t (failed status) transferred) (stops n) in
         cond-ind Q (not (soundOf t)) (λ _. no _)
-        (λ _. cond-ind Q (ltb n Paper.replyRoom) (λ _. no _)
+        (λ _. cond-ind Q (ltb n Codes.replyRoom) (λ _. no _)
         (λ l. cond-ind Q (not (mayFinish status s)) (λ _. no _)
         (λ m. cond-ind Q (not (pickOf t (runningAs arrival) .found)) (λ _. no _) (λ f. goes (ltb-false n _ l) (not-false _ m) (not-false _ f)))))
 
@@ -97,7 +97,7 @@ module _ (P : Outcome → Type 0) (t : Table) (stops : (n : Refusal) → P (refu
 
 -- a confirmation: FFh, or 15, or the task that waits to be confirmed ends, or it waits again at an offset within the bytes transferred
 module _ (P : Plan → Type 0) (own : Pick) (p tag : ℕ) (m : List ℕ) (offset : ℕ) (complete : Bool) where
-  pub each-confirm : P (planned (answer.Reply (reply.Response tag Paper.invalidField)) change.Nothing records.Nothing) → P (refusing Paper.nothingToConfirm)
+  pub each-confirm : P (planned (answer.Reply (reply.Response tag Codes.invalidField)) change.Nothing records.Nothing) → P (refusing Codes.nothingToConfirm)
       → (isAwaited own ≡ true → complete ≡ true → P (planned (answer.Confirmed (own .task .arrival)) change.Nothing (records.End (numberedAs (own .task .arrival) p tag))))
       → (isAwaited own ≡ true → complete ≡ false → offset ≤ own .task .transferred
       → P (planned (answer.Restarted (own .task .arrival)) change.Nothing (records.Restart (own .at) offset)))

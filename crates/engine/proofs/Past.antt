@@ -5,7 +5,7 @@ use mathlib.Core.Bool.{false, cond, not}
 use mathlib.Core.List.{List, [], _∷_, _++_}
 use mathlib.Core.Logic.{inl, inr}
 use lib.Dec.{ltb}
-use Rattle.wire.specs.Paper
+use Rattle.wire.specs.Codes
 use Rattle.wire.specs.Messages.{readOf, reservedSet}
 use Rattle.wire.specs.Block.{cutShort}
 use Rattle.wire.specs.Promises.{s3pCode, Whole}
@@ -53,7 +53,7 @@ module _ (t : Table) (m rest : List ℕ) where
   Same a = answeredTo t (m ++ rest) a ≡ answeredTo t m a
 
   -- an order and a confirmation look at the reserved fields alone
-  answered-same : (r : Message) → (s3pCode r ≡ Paper.scsiCommand → cutShort m ≡ false) → reservedSet (m ++ rest) ≡ reservedSet m → Same (askedOf r)
+  answered-same : (r : Message) → (s3pCode r ≡ Codes.scsiCommand → cutShort m ≡ false) → reservedSet (m ++ rest) ≡ reservedSet m → Same (askedOf r)
   unfolding answeredTo planFor planAt orderPlan orderCode confirmPlan s3pCode
   answered-same (Command tag path lun flags) w s = rw (decided-same m rest _ flags (w refl) s)
   answered-same (ConfirmStatus tag path newPath offset complete) w s = rw s
@@ -69,10 +69,10 @@ module _ (t : Table) (m rest : List ℕ) where
   message-same : (n : ℕ) → Whole m → messageOf t (m ++ rest) n ≡ messageOf t m n
   unfolding messageOf heardOf answeredTo
   message-same n h =
-      let w : s3pCode (readOf m) ≡ Paper.scsiCommand → cutShort m ≡ false = λ e. h .block (sym (read-by-code m _ refl (h .fields)) ∙ e) in
+      let w : s3pCode (readOf m) ≡ Codes.scsiCommand → cutShort m ≡ false = λ e. h .block (sym (read-by-code m _ refl (h .fields)) ∙ e) in
       rw (past .read m rest (h .fields _))
       (cond-ind Same (not (soundOf t)) (λ _. refl)
-      (λ _. cond-ind Same (ltb n Paper.replyRoom) (λ _. refl) (λ _. answered-same (readOf m) w (past .reserved-set m rest h))))
+      (λ _. cond-ind Same (ltb n Codes.replyRoom) (λ _. refl) (λ _. answered-same (readOf m) w (past .reserved-set m rest h))))
 
 pub past-is-not-read : PastIsNotRead
 unfolding handedOver

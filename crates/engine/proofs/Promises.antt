@@ -8,7 +8,7 @@ use lib.ListN.{length, drop, length-drop}
 use lib.Seq.{length-take-le}
 use lib.Dec.{eqb, ltb}
 use borrow.Author.Tests.{ltb-false, eqb-false}
-use Rattle.wire.specs.Paper
+use Rattle.wire.specs.Codes
 use Rattle.wire.specs.Block.{blockLength, cutShort, noBlock, blockOf}
 use Rattle.wire.specs.declared.codes.Refusal.{Refusal}
 use Rattle.wire.specs.declared.message.Flags.{Flags}
@@ -108,7 +108,7 @@ pub setup-refusals : SetupRefusals
 unfolding setupOf setupTable
 setup-refusals ids attached first o n e = as-defined (zero (badList ids) _) e n
   where
-    zero : (b : Bool) (u : Table) → Stays zeroTable (cond b (answer.Refused Paper.badPaths) answer.Ready) (cond b zeroTable u)
+    zero : (b : Bool) (u : Table) → Stays zeroTable (cond b (answer.Refused Codes.badPaths) answer.Ready) (cond b zeroTable u)
     zero true u = λ _ _. refl
     zero false u = no-refusal refl
 

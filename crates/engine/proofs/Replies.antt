@@ -8,7 +8,7 @@ use native.Mathlib.Omega.{arith}
 use lib.ListN.{length}
 use lib.Dec.{eqb, leb}
 use borrow.Author.Tests.{le-ltb}
-use Rattle.wire.specs.Paper
+use Rattle.wire.specs.Codes
 use Rattle.wire.specs.Messages.{reservedSet}
 use Rattle.wire.specs.declared.codes.Refusal.{Refusal}
 use Rattle.wire.specs.declared.codes.ReturnCode.{ReturnCode}
@@ -89,10 +89,10 @@ sent-fits : (tag : ℕ) (status : StatusByte) (s : Sense) → mayFinish status s
 unfolding writableOf
 sent-fits tag status s =
     let is : StatusByte → Bool = λ x. eqb (status .0) (x .0) in
-    cases (is Paper.checkCondition) (is Paper.good) (is Paper.conditionMet) (is Paper.reservationConflict) (is Paper.taskSetFull || (is Paper.acaActive || false))
+    cases (is Codes.checkCondition) (is Codes.good) (is Codes.conditionMet) (is Codes.reservationConflict) (is Codes.taskSetFull || (is Codes.acaActive || false))
   where
     cases : (checked good met reserved others : Bool) → (leb (s .key) 15 && (good || (checked || (met || reserved)))) ≡ true
-        → cond checked (leb (cond checked s Paper.noSense .key) 15) (isNone (cond checked s Paper.noSense) && (good || (met || (reserved || others)))) ≡ true
+        → cond checked (leb (cond checked s Codes.noSense .key) 15) (isNone (cond checked s Codes.noSense) && (good || (met || (reserved || others)))) ≡ true
     cases true good met reserved others h = both _ _ h .0
     cases false true met reserved others h = refl
     cases false false true reserved others h = refl
@@ -101,7 +101,7 @@ sent-fits tag status s =
 
 -- ---- what fits is written
 
-written : (a : Answer) (buf : List ℕ) (r : Reply) → Paper.replyRoom ≤ length buf → Fits a → replyOf a ≡ some r → ReplyWritten r buf (replied a buf)
+written : (a : Answer) (buf : List ℕ) (r : Reply) → Codes.replyRoom ≤ length buf → Fits a → replyOf a ≡ some r → ReplyWritten r buf (replied a buf)
 unfolding leftOf replied
 written a buf r l f e =
     let w : writableOf r ≡ true = sym (ap fits e) ∙ f in

@@ -6,7 +6,7 @@ use mathlib.Core.List.{List, []}
 use mathlib.Core.Option.{Option, none, some}
 use lib.ListN.{length}
 use lib.Dec.{eqb, ltb, leb}
-use Rattle.wire.specs.Paper
+use Rattle.wire.specs.Codes
 use Rattle.wire.specs.Messages.{readOf}
 use Rattle.wire.specs.Block.{blockOf}
 use Rattle.wire.specs.declared.codes.Refusal.{Refusal}
@@ -52,7 +52,7 @@ refused t n = out t (answer.Refused n) 0
 -- what is heard, with a reply buffer of so many bytes
 unfoldable pub heardOf : Bool → ℕ → List ℕ → Asked
 heardOf sound room m =
-    cond (not sound) (Unread Paper.notSound) (cond (ltb room Paper.replyRoom) (Unread Paper.smallBuffer) (askedOf (readOf m)))
+    cond (not sound) (Unread Codes.notSound) (cond (ltb room Codes.replyRoom) (Unread Codes.smallBuffer) (askedOf (readOf m)))
 
 -- the id of the path that is heard; 0 where nothing is
 abbrev pub senderOf : Asked → ℕ
@@ -68,7 +68,7 @@ planAt t m p tag w = planOf (lookupFor t p tag w) (t .next) p tag m w
 
 -- the plan for what the path with an id asks: 3 where it is not listed
 unfoldable pub planFor : Table → List ℕ → ℕ → ℕ → Request → Plan
-planFor t m path tag w = cond (ltb (pathOf t path) 8) (planAt t m (pathOf t path) tag w) (refusing Paper.unknownPath)
+planFor t m path tag w = cond (ltb (pathOf t path) 8) (planAt t m (pathOf t path) tag w) (refusing Codes.unknownPath)
 
 -- a plan carried out: paths and units, then the records
 abbrev pub withParts : Table → Change → Table
@@ -135,10 +135,10 @@ goes p = verdict (answer.Started (p .task .offset) (p .task .arrival)) (p .at) 0
 
 unfoldable pub startVerdict : Table → ℕ → Verdict
 startVerdict t unit =
-    cond (not (soundOf t)) (rejected Paper.notSound)
-    (cond (not (isAttached t unit)) (rejected Paper.notAttached)
-    (cond (pickOf t (runningOn unit) .found) (rejected Paper.unitBusy)
-    (cond (not (choiceOn t unit .found)) (rejected Paper.nothingToStart)
+    cond (not (soundOf t)) (rejected Codes.notSound)
+    (cond (not (isAttached t unit)) (rejected Codes.notAttached)
+    (cond (pickOf t (runningOn unit) .found) (rejected Codes.unitBusy)
+    (cond (not (choiceOn t unit .found)) (rejected Codes.nothingToStart)
     (goes (choiceOn t unit)))))
 
 unfoldable pub startOf : Table → ℕ → Outcome
@@ -148,26 +148,26 @@ startOf t unit = settled (startVerdict t unit) (started t (startVerdict t unit .
 abbrev pub mayFinish : StatusByte → Sense → Bool
 mayFinish status s =
     leb (s .key) 15
-    && (eqb (status .0) (Paper.good .0) || (eqb (status .0) (Paper.checkCondition .0) || (eqb (status .0) (Paper.conditionMet .0) || eqb (status .0) (Paper.reservationConflict .0))))
+    && (eqb (status .0) (Codes.good .0) || (eqb (status .0) (Codes.checkCondition .0) || (eqb (status .0) (Codes.conditionMet .0) || eqb (status .0) (Codes.reservationConflict .0))))
 
 -- sense is sent with 02h; with another status it is zero, whatever the device passed
 abbrev pub sentSense : StatusByte → Sense → Sense
-sentSense status s = cond (eqb (status .0) (Paper.checkCondition .0)) s Paper.noSense
+sentSense status s = cond (eqb (status .0) (Codes.checkCondition .0)) s Codes.noSense
 
 -- the running task of an arrival number
 abbrev pub runningTask : Table → ℕ → Task
 runningTask t arrival = pickOf t (runningAs arrival) .task
 
 abbrev pub failed : StatusByte → Bool
-failed status = eqb (status .0) (Paper.checkCondition .0)
+failed status = eqb (status .0) (Codes.checkCondition .0)
 
 -- n is the length of the reply buffer
 unfoldable pub finishVerdict : Table → ℕ → StatusByte → Sense → ℕ → Verdict
 finishVerdict t arrival status s n =
-    cond (not (soundOf t)) (rejected Paper.notSound)
-    (cond (ltb n Paper.replyRoom) (rejected Paper.smallBuffer)
-    (cond (not (mayFinish status s)) (rejected Paper.badStatus)
-    (cond (not (pickOf t (runningAs arrival) .found)) (rejected Paper.notRunning)
+    cond (not (soundOf t)) (rejected Codes.notSound)
+    (cond (ltb n Codes.replyRoom) (rejected Codes.smallBuffer)
+    (cond (not (mayFinish status s)) (rejected Codes.badStatus)
+    (cond (not (pickOf t (runningAs arrival) .found)) (rejected Codes.notRunning)
     (verdict (answer.Reply (reply.Status (runningTask t arrival .tag) status (sentSense status s))) (pickOf t (runningAs arrival) .at) (pathAt t (runningTask t arrival .path) .id)))))
 
 -- the task ends, or with CONFIRM waits to be confirmed, with the bytes transferred
@@ -177,11 +177,11 @@ finishOf t arrival status s transferred n =
 
 -- total reset: 13 only
 unfoldable pub totalResetOf : Table → Outcome
-totalResetOf t = cond (not (soundOf t)) (refused t Paper.notSound) (out (resetOf t) answer.Reset 0)
+totalResetOf t = cond (not (soundOf t)) (refused t Codes.notSound) (out (resetOf t) answer.Reset 0)
 
 -- setup: 11, with the all-zero table
 unfoldable pub setupOf : List ℕ → ℕ → ℕ → Outcome
-setupOf ids attached first = out (setupTable ids attached first) (cond (badList ids) (answer.Refused Paper.badPaths) answer.Ready) 0
+setupOf ids attached first = out (setupTable ids attached first) (cond (badList ids) (answer.Refused Codes.badPaths) answer.Ready) 0
 
 -- ---- the reply buffer
 

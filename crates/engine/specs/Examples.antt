@@ -5,7 +5,7 @@ use mathlib.Core.Path.{_≡_}
 use mathlib.Core.Bool.{true, false}
 use mathlib.Core.List.{List, [], _∷_, map}
 use lib.ListN.{replicate}
-use Rattle.wire.specs.Paper
+use Rattle.wire.specs.Codes
 use Rattle.reply.specs.Calls.{placed}
 use Rattle.task.specs.Tasks.{noTask, acceptedAs}
 use Rattle.task.specs.declared.Task.{Task}
@@ -76,21 +76,21 @@ abbrev pub silent : Table → List ℕ → Answer → Example
 silent t m a = record { table = t; message = m; answer = a; reply = [] }
 
 abbrev pub refused : Table → List ℕ → ℕ → Example
-refused t m n = silent t m (Refused (Paper.refusal n))
+refused t m n = silent t m (Refused (Codes.refusal n))
 
 abbrev pub accept : Table → List ℕ → ℕ → Example
 accept t m arrival = silent t m (Accepted arrival)
 
 -- RESPONSE to tag 0005h
 abbrev pub response : Table → List ℕ → ℕ → Example
-response t m code = record { table = t; message = m; answer = Reply (Response 5 (Paper.returnCode code)); reply = 0x83 ∷ 0x03 ∷ 0x00 ∷ 0x05 ∷ code ∷ [] }
+response t m code = record { table = t; message = m; answer = Reply (Response 5 (Codes.returnCode code)); reply = 0x83 ∷ 0x03 ∷ 0x00 ∷ 0x05 ∷ code ∷ [] }
 
 -- STATUS to tag 0005h: without sense, and 02h with sense key and code
 abbrev pub status : Table → List ℕ → ℕ → Example
 status t m byte = record {
   table = t;
   message = m;
-  answer = Reply (Status 5 (Paper.statusByte byte) Paper.noSense);
+  answer = Reply (Status 5 (Codes.statusByte byte) Codes.noSense);
   reply = 0x83 ∷ 0x11 ∷ 0x00 ∷ 0x05 ∷ byte ∷ replicate 21 0;
 }
 
@@ -98,7 +98,7 @@ abbrev pub check : Table → List ℕ → ℕ → ℕ → Example
 check t m key code = record {
   table = t;
   message = m;
-  answer = Reply (Status 5 (Paper.statusByte 0x02) (Paper.sense key code 0x00));
+  answer = Reply (Status 5 (Codes.statusByte 0x02) (Codes.sense key code 0x00));
   reply = 0x83 ∷ 0x11 ∷ 0x00 ∷ 0x05 ∷ 0x02 ∷ 0 ∷ 0 ∷ 0 ∷ 0x70 ∷ 0 ∷ key ∷ 0 ∷ 0 ∷ 0 ∷ 0 ∷ 0x0a ∷ 0 ∷ 0 ∷ 0 ∷ 0 ∷ code ∷ 0 ∷ 0 ∷ 0 ∷ 0 ∷ 0 ∷ [];
 }
 
@@ -160,15 +160,15 @@ abbrev pub worked3 : Outcome
 worked3 = startOf (worked2 .table) 0
 
 abbrev pub worked4 : Outcome
-worked4 = finishOf (worked3 .table) 1 (Paper.statusByte 0x00) Paper.noSense 0 64
+worked4 = finishOf (worked3 .table) 1 (Codes.statusByte 0x00) Codes.noSense 0 64
 
 abbrev pub worked5 : Outcome
-worked5 = finishOf (worked4 .table) 1 (Paper.statusByte 0x00) Paper.noSense 0 64
+worked5 = finishOf (worked4 .table) 1 (Codes.statusByte 0x00) Codes.noSense 0 64
 
 abbrev pub WorkedCalls : Type 0
 WorkedCalls =
     map (λ (o : Outcome). o .answer) (worked1 ∷ worked2 ∷ worked3 ∷ worked4 ∷ worked5 ∷ [])
-    ≡ Reply (Status 5 (Paper.statusByte 0x02) (Paper.sense 0x06 0x29 0x00)) ∷ Accepted 1 ∷ Started 0 1 ∷ Reply (Status 6 (Paper.statusByte 0x00) Paper.noSense) ∷ Refused (Paper.refusal 9) ∷ []
+    ≡ Reply (Status 5 (Codes.statusByte 0x02) (Codes.sense 0x06 0x29 0x00)) ∷ Accepted 1 ∷ Started 0 1 ∷ Reply (Status 6 (Codes.statusByte 0x00) Codes.noSense) ∷ Refused (Codes.refusal 9) ∷ []
 
 -- ---- confirmed status
 
@@ -191,7 +191,7 @@ unfoldable pub underway : Table
 underway = startOf waits 0 .table
 
 unfoldable pub unconfirmed : Table
-unconfirmed = finishOf underway 1 Paper.good Paper.noSense 16 64 .table
+unconfirmed = finishOf underway 1 Codes.good Codes.noSense 16 64 .table
 
 unfoldable pub again8 : Table
 again8 = messageOf unconfirmed (confirm 1 1 8 (0 ∷ [])) 64 .table
@@ -221,8 +221,8 @@ ConfirmationsHold = map given confirmations ≡ map said confirmations
 -- the device's side: the unit is free and path 2's task goes; the finished one runs no more; restarted, it goes first, and the offset is handed back
 abbrev pub ConfirmedCalls : Type 0
 ConfirmedCalls =
-    map (λ (o : Outcome). o .answer) (startOf unconfirmed 0 ∷ finishOf unconfirmed 1 Paper.good Paper.noSense 16 64 ∷ startOf again8 0 ∷ [])
-    ≡ Started 0 2 ∷ Refused (Paper.refusal 9) ∷ Started 8 1 ∷ []
+    map (λ (o : Outcome). o .answer) (startOf unconfirmed 0 ∷ finishOf unconfirmed 1 Codes.good Codes.noSense 16 64 ∷ startOf again8 0 ∷ [])
+    ≡ Started 0 2 ∷ Refused (Codes.refusal 9) ∷ Started 8 1 ∷ []
 
 -- ---- what an order ends
 

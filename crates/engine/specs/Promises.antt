@@ -5,7 +5,7 @@ use mathlib.Core.Bool.{Bool, true, false}
 use mathlib.Core.List.{List, _++_}
 use mathlib.Core.Option.{none, some}
 use lib.ListN.{length}
-use Rattle.wire.specs.Paper.{replyRoom}
+use Rattle.wire.specs.Codes.{replyRoom}
 use Rattle.wire.specs.Messages.{readOf}
 use Rattle.wire.specs.Block.{blockLength, cutShort, noBlock}
 use Rattle.wire.specs.Promises.{Whole}

@@ -4,22 +4,22 @@ ghost use mathlib.Core.Bool.{cond};
 ghost use lib.Dec.{ltb};
 ghost use Rattle.engine.specs.Calls.{replyPath, heardOf, senderOf, mayGo, rejected, startVerdict, mayFinish, sentSense, finishVerdict, replied};
 ghost use Rattle.engine.specs.Calls.{SetupContract, MessageContract, StartContract, FinishContract, TotalResetContract, CommandBlockContract};
-ghost use Rattle.wire.specs.Paper;
-ghost use Rattle.wire.specs.Paper.{statusByte, sense};
+ghost use Rattle.wire.specs.Codes;
+ghost use Rattle.wire.specs.Codes.{statusByte, sense};
 ghost use Rattle.plan.specs.Plans.{refusing, planOf};
 use crate::Outcome;
 use plan::Answer;
 use plan::Asked;
-use plan::RecordChange;
 use plan::Plan;
+use plan::RecordChange;
 use plan::Request;
 use reply::Reply;
 use rules::facts::Lookup;
 use rules::facts::look_up;
 use table::Aca;
-use task::RECORDS;
 use table::PATHS;
 use table::Table;
+use task::RECORDS;
 use task::select::Selection;
 use wire::codes::REPLY_ROOM;
 use wire::codes::Refusal;
@@ -77,7 +77,7 @@ fn reply_to(a: Answer, reply: &mut [u8])
 
 // The plan for what the path at p asks: refusal 3 where it is not listed, then by rules, orders and confirmations.
 fn plan_for(s: Lookup, next: u64, p: u8, tag: u16, m: &[u8], w: Request) -> Plan
-    ensures { λ r. ⌜ r ≡ cond (ltb p 8) (planOf s next p tag (now (m .entry)) w) (refusing Paper.unknownPath) ⌝ }
+    ensures { λ r. ⌜ r ≡ cond (ltb p 8) (planOf s next p tag (now (m .entry)) w) (refusing Codes.unknownPath) ⌝ }
 {
     if p as usize >= PATHS {
         return plan::refuse(Refusal::UNKNOWN_PATH);
@@ -96,7 +96,13 @@ pub fn message(mut t: Table, m: &[u8], reply: &mut [u8]) -> Outcome
         Asked::By { path, tag, request } => {
             let p = t.path_of(path);
             let named = plan::tag_asked(tag, request);
-            let lookup = look_up(t, p, named, plan::unit_asked(request), plan::clears_set(request));
+            let lookup = look_up(
+                t,
+                p,
+                named,
+                plan::unit_asked(request),
+                plan::clears_set(request),
+            );
             plan_for(lookup, t.next, p, tag, m, request)
         }
     };

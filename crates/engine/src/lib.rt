@@ -4,7 +4,7 @@ pub mod calls;
 use plan::Answer;
 use table::Table;
 
-// The next table, the answer, and the id of the return path that the reply goes to: whose command it was, 0 with no reply.
+// The next table, the answer, and the id of the return path that a reply goes to, 0 with none: the sender of the message, or the path of the finished task.
 pub struct Outcome {
     pub table: Table,
     pub answer: Answer,

@@ -9,7 +9,7 @@ use native.Mathlib.Omega.{arith}
 use lib.ListN.{length, getD}
 use lib.Dec.{eqb, ltb}
 use borrow.Author.Tests.{ltb-true, lt-ltb, eq-eqb, ne-eqb, eqb-true}
-use Rattle.wire.specs.Paper
+use Rattle.wire.specs.Codes
 use Rattle.wire.specs.Messages.{readOf}
 use Rattle.wire.specs.declared.codes.Refusal.{Refusal}
 use Rattle.wire.specs.declared.codes.StatusByte.{StatusByte}
@@ -229,7 +229,7 @@ module _ (t : Table) (g : Good t) where
       → Done (orderEffect p o (orderPlan f others p tag m o .answer)) t (carriedOut t (orderPlan f others p tag m o))
   unfolding orderPlan carriedOut withRecords
   done-ordered f others p tag m o =
-      cond-ind (λ (pl : Plan). Done (orderEffect p o (pl .answer)) t (carriedOut t pl)) (eqb (orderCode f m o .0) (Paper.done .0))
+      cond-ind (λ (pl : Plan). Done (orderEffect p o (pl .answer)) t (carriedOut t pl)) (eqb (orderCode f m o .0) (Codes.done .0))
       (λ e.
       subst (λ (b : Bool). Done (cond b (Ends (endsOf p o) (byOrder o)) Nothing) t (endedBy (withParts t (orderChange others o)) (endsOf p o))) (sym e)
       (done-by-order others p o))

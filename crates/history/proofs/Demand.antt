@@ -7,7 +7,7 @@ use mathlib.Core.Logic.{_⊎_, inl, inr}
 use mathlib.Core.Option.{some, Option·none-ne-some}
 use native.Mathlib.Omega.{arith}
 use lib.ListN.{length}
-use Rattle.wire.specs.Paper
+use Rattle.wire.specs.Codes
 use Rattle.wire.specs.declared.codes.Refusal.{Refusal}
 use Rattle.task.proofs.Ways.{either-way}
 use Rattle.table.specs.Tables.{zeroTable, alteredAt, finished}
@@ -119,7 +119,7 @@ drive-keeps ids l t n TotalReset o left T c =
     rw c (kept ids l t (totalResetOf t .table) T (reset-keeps t (T .good)) n _ (reset-done ids t (T .good) (T .listed) (T .ids-stand)))
 
 -- a call on the all-zero table is refused by 13
-unsound : (ev : Event) → (engine ev zeroTable .answer ≡ answer.Refused Paper.notSound) × (engine ev zeroTable .table ≡ zeroTable)
+unsound : (ev : Event) → (engine ev zeroTable .answer ≡ answer.Refused Codes.notSound) × (engine ev zeroTable .table ≡ zeroTable)
 unfolding engine messageOf heardOf answeredTo startOf startVerdict finishOf finishVerdict totalResetOf soundOf countOk zeroTable alteredAt finished
 unsound (Message m buf) = (refl, refl)
 unsound (Start unit) = (refl, refl)
@@ -128,7 +128,7 @@ unsound TotalReset = (refl, refl)
 
 drive-refuses : Refuses (ByDrive engine)
 drive-refuses ev o left c = record {
-  number = Paper.notSound;
+  number = Codes.notSound;
   refused = ap (λ (x : Outcome). x .answer) c ∙ unsound ev .0;
   table = ap (λ (x : Outcome). x .table) c ∙ unsound ev .1;
 }
@@ -170,11 +170,11 @@ refused-setup : (ids : List ℕ) (attached first : ℕ) (n : Refusal) → setupO
 unfolding setupOf
 refused-setup ids attached first n = cases (badList ids)
   where
-    cases : (b : Bool) → cond b (answer.Refused Paper.badPaths) answer.Ready ≡ answer.Refused n → b ≡ true
+    cases : (b : Bool) → cond b (answer.Refused Codes.badPaths) answer.Ready ≡ answer.Refused n → b ≡ true
     cases true e = refl
     cases false e = let z : _≡_ {A = ℕ} 0 1 = cc in absurd (omega arith)
 
-each-refused : (cs : List Call) → Chained Engine zeroTable cs → (k : ℕ) (c : Call) → nth cs k ≡ some c → c .outcome .answer ≡ answer.Refused Paper.notSound
+each-refused : (cs : List Call) → Chained Engine zeroTable cs → (k : ℕ) (c : Call) → nth cs k ≡ some c → c .outcome .answer ≡ answer.Refused Codes.notSound
 unfolding nth
 each-refused [] m k c e = absurd (Option·none-ne-some c e)
 each-refused (d ∷ cs) m zero c e =
@@ -221,7 +221,7 @@ as-refusing : (t : Table) (cs : List Call) → Chained (ByDrive refusesAll) t cs
 unfolding refusesAll
 as-refusing t [] m = tt
 as-refusing t (c ∷ cs) m =
-    (refusing Paper.notHandled (ap (λ (x : Outcome). x .answer) (m .0)) (ap (λ (x : Outcome). x .table) (m .0)), as-refusing (c .outcome .table) cs (m .1))
+    (refusing Codes.notHandled (ap (λ (x : Outcome). x .answer) (m .0)) (ap (λ (x : Outcome). x .table) (m .0)), as-refusing (c .outcome .table) cs (m .1))
 
 pub refusing-meets : RefusingMeets
 refusing-meets ids attached first o cs l made chained = works-or-refuses ids attached first o cs l made (as-refusing (o .table) cs chained)

@@ -1,9 +1,9 @@
--- The six wrong drives do not meet demand 3, each by a short trace, computed; and of the drives that echo those break it that go on answering, and those meet it that refuse. Assumes nothing.
+-- The seven wrong drives do not meet demand 3, each by a short trace, computed; and of the drives that echo those break it that go on answering, and those meet it that refuse. Assumes nothing.
 use Prim.Native.Nat.{ℕ, _≤_}
 use mathlib.Core.Path.{_≡_, refl, ap, subst, _∙_}
 use mathlib.Core.List.{List, [], _∷_}
 use native.Mathlib.Omega.{arith}
-use Rattle.wire.specs.Paper
+use Rattle.wire.specs.Codes
 use Rattle.wire.specs.declared.codes.Refusal.{Refusal}
 use Rattle.table.specs.declared.Table.{Table}
 use Rattle.engine.specs.Calls.{setupOf}
@@ -12,8 +12,8 @@ use Rattle.plan.specs.declared.Answer.the-variants as answer
 use Rattle.engine.specs.declared.Outcome.{Outcome}
 use Rattle.history.specs.Trace.{Event, Start, Finish, TotalReset, Told}
 use Rattle.history.specs.Demand.{Call, told, Chained, lastTable, Agrees, Demand3}
-use Rattle.history.specs.Drives.{Drive, callsOf, ByDrive, engine, endedByTag, goesByTag, numbersAnew, finishesAll, losesTasks, endsAtFinish, inventsLive, WrongDrives, Remembering, callsBy, Meets, Echoes, Echoing}
-use Rattle.history.specs.TwoHosts.{hosts, fresh, buffer, command, confirmable, abort}
+use Rattle.history.specs.Drives.{Drive, callsOf, ByDrive, engine, endedByTag, goesByTag, numbersAnew, finishesAll, losesTasks, endsAtFinish, completesAll, inventsLive, WrongDrives, Remembering, callsBy, Meets, Echoes, Echoing}
+use Rattle.history.specs.TwoHosts.{hosts, fresh, buffer, command, confirmable, confirms, abort}
 use Rattle.history.proofs.Computing.{computing}
 use Rattle.history.proofs.Demand.{as-engine, refusing, WorksOrRefuses, works-or-refuses}
 
@@ -37,10 +37,10 @@ inquiry host tag = command host tag inquire
 
 -- the device finishes a command, with status GOOD
 abbrev finish : ℕ → Event
-finish arrival = Finish arrival Paper.good Paper.noSense 0 buffer
+finish arrival = Finish arrival Codes.good Codes.noSense 0 buffer
 
 pub wrong-drives : WrongDrives
-unfolding computing endedByTag goesByTag numbersAnew finishesAll losesTasks endsAtFinish inventsLive
+unfolding computing endedByTag goesByTag numbersAnew finishesAll losesTasks endsAtFinish completesAll inventsLive
 wrong-drives = record {
   -- host 1 aborts its own command; host 2's with the same tag is accepted, not ended and not live
   not-by-tag = λ d.
@@ -61,6 +61,10 @@ wrong-drives = record {
   -- the command has CONFIRM and is finished: it is accepted, not ended and not live
   not-at-finish = λ d.
       let z : _≡_ {A = ℕ} 1 0 = attempt endsAtFinish d (confirmable 1 5 inquire ∷ Start 0 ∷ finish 1 ∷ []) .balance 0 in
+      omega arith;
+  -- the host asks with COMPLETE clear for its command to be started again: it is accepted, not ended and not live
+  not-completes-all = λ d.
+      let z : _≡_ {A = ℕ} 1 0 = attempt completesAll d (confirmable 1 5 inquire ∷ Start 0 ∷ finish 1 ∷ confirms 0x00 1 5 ∷ []) .balance 0 in
       omega arith;
   -- one command is accepted and not ended, and 64 records of the path at 0 are said to be live
   not-invents = λ d.

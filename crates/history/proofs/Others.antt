@@ -7,7 +7,7 @@ use mathlib.Core.Option.{some}
 use mathlib.Core.Logic.{inl, inr}
 use lib.Dec.{eqb}
 use lib.ListN.{length}
-use Rattle.wire.specs.Paper
+use Rattle.wire.specs.Codes
 use Rattle.wire.specs.declared.message.Flags.{Flags}
 use Rattle.task.specs.Map.{lowestFree}
 use Rattle.task.specs.Selections.{picks, named}
@@ -93,7 +93,7 @@ module _ (i : ℕ) (a : Task) (l : i < 64) where
       unfolding planAt lookupOf orderPlan
       plan-spares m tag (Command lun flags) r = ruling-spares (t .next) tag lun flags (deciding (factsOf t p tag lun) flags m .gives)
       plan-spares m tag (Manage o) r =
-          cond-ind (λ (pl : Plan). Spares i a (pl .records)) (eqb (orderCode _ m o .0) (Paper.done .0)) (λ _. not-ended _ (own-order p o r a)) (λ _. tt)
+          cond-ind (λ (pl : Plan). Spares i a (pl .records)) (eqb (orderCode _ m o .0) (Codes.done .0)) (λ _. not-ended _ (own-order p o r a)) (λ _. tt)
       plan-spares m tag (Confirm offset complete) r =
           let own : Pick = pickOf t (named p tag) in
           each-confirm (λ (pl : Plan). Spares i a (pl .records)) own p tag m offset complete tt tt (λ _ _. not-ended _ (own-numbered (own .task .arrival) p tag a))

@@ -11,7 +11,7 @@ use native.Mathlib.Omega.{arith}
 use lib.Dec.{eqb}
 use lib.ListN.{length}
 use borrow.Author.Tests.{eqb-true}
-use Rattle.wire.specs.Paper
+use Rattle.wire.specs.Codes
 use Rattle.wire.specs.Messages.{readOf}
 use Rattle.wire.specs.declared.codes.Refusal.{Refusal}
 use Rattle.wire.specs.declared.codes.ReturnCode.{ReturnCode}
@@ -75,7 +75,7 @@ module _ (P : Effect → Type 0) (nothing : P Nothing) where
   order-can : (p : ℕ) (o : Order) → P (Ends (endsOf p o) (byOrder o)) → (a : Answer) → P (orderEffect p o a)
   order-can p o ends a =
       each-reply (λ x. P (orderReplied p o x)) nothing
-      (λ t code. cond-ind P (eqb (code .0) (Paper.done .0)) (λ _. ends) (λ _. nothing)) (λ _ _ _. nothing) (λ _. nothing) (replyOf a)
+      (λ t code. cond-ind P (eqb (code .0) (Codes.done .0)) (λ _. ends) (λ _. nothing)) (λ _ _ _. nothing) (λ _. nothing) (replyOf a)
 
   -- a confirmation ends a command, or has it wait again
   confirm-can : (p tag offset : ℕ) (complete : Bool) → ((n : ℕ) → P (Ends (numberedAs n p tag) byStatus)) → ((n : ℕ) → P (Restarts (numberedAs n p tag) offset))

@@ -5,7 +5,7 @@ use mathlib.Core.Bool.{Bool, true, false}
 use mathlib.Core.List.{List, [], _∷_, map}
 use mathlib.Core.Option.{some}
 use lib.Count.{ones}
-use Rattle.wire.specs.Paper
+use Rattle.wire.specs.Codes
 use Rattle.wire.specs.Messages.{readOf}
 use Rattle.wire.specs.declared.codes.Refusal.{Refusal}
 use Rattle.task.specs.Tasks.{acceptedAs}
@@ -112,7 +112,7 @@ Demand3 C = (ids : List ℕ) (attached first : ℕ) (o : Outcome) (cs : List Cal
 
 -- after a refused setup each call is refused by 13, the table stays all zero, and the ledger is empty
 pub record Refusing (ids : List ℕ) (t : Table) (cs : List Call) : Type 0 where
-  pub refused : (k : ℕ) (c : Call) → nth cs k ≡ some c → c .outcome .answer ≡ Refused Paper.notSound
+  pub refused : (k : ℕ) (c : Call) → nth cs k ≡ some c → c .outcome .answer ≡ Refused Codes.notSound
   pub table : lastTable t cs ≡ zeroTable
   pub empty : ledger ids (told cs) ≡ []
 

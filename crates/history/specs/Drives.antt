@@ -1,10 +1,13 @@
--- Drives: the engine's own calls; six that differ from it in one thing and break demand 3 on a short trace; those that work at the first call and afterwards only echo;
+-- Drives: the engine's own calls; seven that differ from it in one thing and break demand 3 on a short trace; those that work at the first call and afterwards only echo;
 -- and one that refuses every call, which demand 3 alone does not refuse.
 use Prim.Native.Nat.{ℕ, zero, suc, _-_, _<_, _^_}
 use mathlib.Core.Path.{_≡_}
+use mathlib.Core.Bool.{cond}
 use mathlib.Core.List.{List, [], _∷_, _++_}
-use lib.ListN.{length}
-use Rattle.wire.specs.Paper
+use lib.ListN.{length, set}
+use lib.Dec.{eqb}
+use Rattle.wire.specs.Codes
+use Rattle.wire.specs.Fields.{byte}
 use Rattle.wire.specs.Messages.{readOf}
 use Rattle.wire.specs.declared.codes.Refusal.{Refusal}
 use Rattle.reply.specs.declared.Reply.the-variants as reply
@@ -130,6 +133,16 @@ endsAtFinish (Finish arrival status sense transferred buf) t =
     withTable (finishOf t arrival status sense transferred (length buf)) (endedBy (finishOf t arrival status sense transferred (length buf) .table) (numbered arrival))
 endsAtFinish TotalReset t = engine TotalReset t
 
+-- every CONFIRM STATUS is answered as if COMPLETE were set
+abbrev pub completed : List ℕ → List ℕ
+completed m = cond (eqb (byte m 1) Codes.confirmStatus) (set m 16 0x80) m
+
+unfoldable pub completesAll : Drive
+completesAll (Message m buf) t = engine (Message (completed m) buf) t
+completesAll (Start unit) t = engine (Start unit) t
+completesAll (Finish arrival status sense transferred buf) t = engine (Finish arrival status sense transferred buf) t
+completesAll TotalReset t = engine TotalReset t
+
 -- every record is said to be live
 abbrev pub allLive : Table → Table
 allLive t = record { live = 2 ^ 64 - 1; next = t .next; count = t .count; attached = t .attached; paths = t .paths; units = t .units; tasks = t .tasks }
@@ -144,6 +157,7 @@ pub record WrongDrives : Type 0 where
   pub not-finishes-all : Demand3 (ByDrive finishesAll) → ⊥
   pub not-loses : Demand3 (ByDrive losesTasks) → ⊥
   pub not-at-finish : Demand3 (ByDrive endsAtFinish) → ⊥
+  pub not-completes-all : Demand3 (ByDrive completesAll) → ⊥
   pub not-invents : Demand3 (ByDrive inventsLive) → ⊥
 
 -- ---- drives that work at the first call and afterwards only echo
@@ -177,7 +191,7 @@ pub record Echoing : Type 0 where
 -- ---- what demand 3 alone does not refuse: a drive that refuses every call. Demand 2 does, at example c.
 
 unfoldable pub refusesAll : Drive
-refusesAll ev t = out t (answer.Refused Paper.notHandled) 0
+refusesAll ev t = out t (answer.Refused Codes.notHandled) 0
 
 abbrev pub RefusingMeets : Type 0
 RefusingMeets = Demand3 (ByDrive refusesAll)

@@ -6,7 +6,7 @@ use mathlib.Core.List.{List, [], _∷_}
 use mathlib.Core.Option.{Option, none, some}
 use lib.ListN.{length, getD}
 use lib.Dec.{eqb}
-use Rattle.wire.specs.Paper
+use Rattle.wire.specs.Codes
 use Rattle.wire.specs.Messages.{readOf}
 use Rattle.wire.specs.declared.codes.StatusByte.{StatusByte}
 use Rattle.wire.specs.declared.codes.Sense.{Sense}
@@ -131,7 +131,7 @@ commandEffect p tag lun kind confirm (answer.Refused n) = Nothing
 -- an order ends what it selects where it is answered by RESPONSE 00h
 abbrev pub orderReplied : ℕ → Order → Option Reply → Effect
 orderReplied p o none = Nothing
-orderReplied p o (some (reply.Response t code)) = cond (eqb (code .0) (Paper.done .0)) (Ends (endsOf p o) (byOrder o)) Nothing
+orderReplied p o (some (reply.Response t code)) = cond (eqb (code .0) (Codes.done .0)) (Ends (endsOf p o) (byOrder o)) Nothing
 orderReplied p o (some (reply.Status t status sense)) = Nothing
 orderReplied p o (some (reply.Invalid t)) = Nothing
 

@@ -4,7 +4,7 @@ use mathlib.Core.Path.{_≡_}
 use mathlib.Core.Bool.{Bool, true, false}
 use mathlib.Core.List.{List, [], _∷_}
 use lib.ListN.{replicate}
-use Rattle.wire.specs.Paper
+use Rattle.wire.specs.Codes
 use Rattle.task.specs.declared.Kind.the-variants.{Simple}
 use Rattle.task.specs.declared.Phase.{Phase}
 use Rattle.task.specs.declared.Phase.the-variants.{Waiting, Running, Unconfirmed}
@@ -37,9 +37,12 @@ command = sends 0x03
 abbrev pub confirmable : ℕ → ℕ → List ℕ → Event
 confirmable = sends 0x13
 
--- CONFIRM STATUS with COMPLETE from a host for a tag
+-- CONFIRM STATUS from a host for a tag, with byte 16; and with COMPLETE set there
+abbrev pub confirms : ℕ → ℕ → ℕ → Event
+confirms last host tag = Message (0x83 ∷ 0x12 ∷ 0 ∷ tag ∷ 0 ∷ 0 ∷ host ∷ host ∷ 0 ∷ 0 ∷ host ∷ host ∷ 0 ∷ 0 ∷ 0 ∷ 0 ∷ last ∷ []) buffer
+
 abbrev pub confirm : ℕ → ℕ → Event
-confirm host tag = Message (0x83 ∷ 0x12 ∷ 0 ∷ tag ∷ 0 ∷ 0 ∷ host ∷ host ∷ 0 ∷ 0 ∷ host ∷ host ∷ 0 ∷ 0 ∷ 0 ∷ 0 ∷ 0x80 ∷ []) buffer
+confirm = confirms 0x80
 
 abbrev pub testUnit : List ℕ
 testUnit = replicate 6 0
@@ -54,7 +57,7 @@ abort host tag tag2 = Message (0x83 ∷ 0x30 ∷ 0 ∷ tag ∷ 0 ∷ 0 ∷ host 
 -- both learn of the reset; both write under tag 0001h; host 1 aborts its write, and once more; unit 0 starts; command 2 is finished
 unfoldable pub twoHosts : List Event
 twoHosts =
-    command 1 0 testUnit ∷ command 2 0 testUnit ∷ command 1 1 write ∷ command 2 1 write ∷ abort 1 2 1 ∷ abort 1 3 1 ∷ Start 0 ∷ Finish 2 Paper.good Paper.noSense 0 buffer ∷ []
+    command 1 0 testUnit ∷ command 2 0 testUnit ∷ command 1 1 write ∷ command 2 1 write ∷ abort 1 2 1 ∷ abort 1 3 1 ∷ Start 0 ∷ Finish 2 Codes.good Codes.noSense 0 buffer ∷ []
 
 abbrev pub written : ℕ → ℕ → Phase → Bool → ℕ → Task
 written arrival p phase confirm transferred = record {
@@ -86,7 +89,7 @@ TwoHostsLedger =
 -- both write with CONFIRM under tag 0001h; host 1's is finished after 512 bytes; host 2 aborts its own, and once more, and would confirm; host 1 confirms
 unfoldable pub confirmedTwoHosts : List Event
 confirmedTwoHosts =
-    command 1 0 testUnit ∷ command 2 0 testUnit ∷ confirmable 1 1 write ∷ confirmable 2 1 write ∷ Start 0 ∷ Finish 1 Paper.good Paper.noSense 512 buffer
+    command 1 0 testUnit ∷ command 2 0 testUnit ∷ confirmable 1 1 write ∷ confirmable 2 1 write ∷ Start 0 ∷ Finish 1 Codes.good Codes.noSense 512 buffer
     ∷ abort 2 2 1 ∷ abort 2 3 1 ∷ confirm 2 1 ∷ confirm 1 1 ∷ []
 
 -- host 1's write was accepted by event 3 and ended by event 10, its confirmation, not by event 6, its finish; host 2's was accepted by event 4 and ended by event 7, its own abort

@@ -4,7 +4,7 @@ use mathlib.Core.Path.{_≡_, _∙_}
 use mathlib.Core.Bool.{Bool, true, false, not}
 use mathlib.Core.List.{List}
 use borrow.Author.Tests.{not-true, not-false, lt-ltb, le-ltb, eq-eqb, ne-eqb}
-use Rattle.wire.specs.Paper
+use Rattle.wire.specs.Codes
 use Rattle.wire.specs.Messages.{reservedSet}
 use Rattle.wire.specs.declared.codes.Queue.{Queue}
 use Rattle.wire.specs.declared.codes.Refusal.{Refusal}
@@ -80,16 +80,16 @@ pub ruleset asked-cases = (asks-command, asks-confirm, asks-reset, asks-abort, a
 -- ---- QUEUE CNTL
 
 module _ (q : Queue) where
-  pub aca-kind : q .0 ≡ Paper.queueAca .0 → kind.Aca ≡ kindOf q
+  pub aca-kind : q .0 ≡ Codes.queueAca .0 → kind.Aca ≡ kindOf q
   aca-kind h = rw h
 
-  pub head-kind : q .0 ≡ Paper.queueHead .0 → kind.Head ≡ kindOf q
+  pub head-kind : q .0 ≡ Codes.queueHead .0 → kind.Head ≡ kindOf q
   head-kind h = rw h
 
-  pub ordered-kind : q .0 ≡ Paper.queueOrdered .0 → kind.Ordered ≡ kindOf q
+  pub ordered-kind : q .0 ≡ Codes.queueOrdered .0 → kind.Ordered ≡ kindOf q
   ordered-kind h = rw h
 
-  pub simple-kind : (q .0 ≡ Paper.queueAca .0 → ⊥) → (q .0 ≡ Paper.queueHead .0 → ⊥) → (q .0 ≡ Paper.queueOrdered .0 → ⊥) → kind.Simple ≡ kindOf q
+  pub simple-kind : (q .0 ≡ Codes.queueAca .0 → ⊥) → (q .0 ≡ Codes.queueHead .0 → ⊥) → (q .0 ≡ Codes.queueOrdered .0 → ⊥) → kind.Simple ≡ kindOf q
   simple-kind a b c = rw (ne-eqb _ _ a, ne-eqb _ _ b, ne-eqb _ _ c)
 
 pub ruleset kind-cases = (aca-kind, head-kind, ordered-kind, simple-kind)
@@ -117,12 +117,12 @@ pub ruleset ruled-cases = (refuses, responds, reports, faults, takes)
 
 -- an order, by its return code
 module _ (f : Facts) (others p tag : ℕ) (m : List ℕ) (o : Order) {code : ReturnCode} (e : code ≡ orderCode f m o) where
-  pub done : {c : Change} {s : Selection} → c ≡ orderChange others o → s ≡ endsOf p o → code .0 ≡ Paper.done .0
+  pub done : {c : Change} {s : Selection} → c ≡ orderChange others o → s ≡ endsOf p o → code .0 ≡ Codes.done .0
       → planned (answer.Reply (reply.Response tag code)) c (records.End s) ≡ orderPlan f others p tag m o
   unfolding orderPlan
   done g h k = rw (g, h, ← e, eq-eqb _ _ k)
 
-  pub not-done : {pl : Plan} → (code .0 ≡ Paper.done .0 → ⊥) → pl ≡ planned (answer.Reply (reply.Response tag code)) change.Nothing records.Nothing → pl ≡ orderPlan f others p tag m o
+  pub not-done : {pl : Plan} → (code .0 ≡ Codes.done .0 → ⊥) → pl ≡ planned (answer.Reply (reply.Response tag code)) change.Nothing records.Nothing → pl ≡ orderPlan f others p tag m o
   unfolding orderPlan
   not-done k h = h ∙ rw (← e, ne-eqb _ _ k)
 
@@ -147,12 +147,12 @@ pub ruleset awaited-cases = (none-picked, still-waits, still-runs, awaits)
 
 -- a confirmation, test by test
 module _ (own : Pick) (p tag : ℕ) (m : List ℕ) (offset : ℕ) (complete : Bool) {b : Bool} (e : b ≡ reservedSet m) where
-  pub confirms-reserved : {pl : Plan} → b ≡ true → pl ≡ planned (answer.Reply (reply.Response tag Paper.invalidField)) change.Nothing records.Nothing → pl ≡ confirmPlan own p tag m offset complete
+  pub confirms-reserved : {pl : Plan} → b ≡ true → pl ≡ planned (answer.Reply (reply.Response tag Codes.invalidField)) change.Nothing records.Nothing → pl ≡ confirmPlan own p tag m offset complete
   unfolding confirmPlan
   confirms-reserved h k = rw (← e, h) k
 
   module _ (h : b ≡ false) {w : Bool} (a : w ≡ isAwaited own) where
-    pub confirms-none : {pl : Plan} → not w ≡ true → pl ≡ refusing Paper.nothingToConfirm → pl ≡ confirmPlan own p tag m offset complete
+    pub confirms-none : {pl : Plan} → not w ≡ true → pl ≡ refusing Codes.nothingToConfirm → pl ≡ confirmPlan own p tag m offset complete
     unfolding confirmPlan
     confirms-none i k = rw (← e, h, ← a, i) k
 
@@ -162,7 +162,7 @@ module _ (own : Pick) (p tag : ℕ) (m : List ℕ) (offset : ℕ) (complete : Bo
       unfolding confirmPlan
       completes j k = rw (k, ← e, h, ← a, i, j)
 
-      pub confirms-past : {pl : Plan} → complete ≡ false → own .task .transferred < offset → pl ≡ planned (answer.Reply (reply.Response tag Paper.invalidField)) change.Nothing records.Nothing
+      pub confirms-past : {pl : Plan} → complete ≡ false → own .task .transferred < offset → pl ≡ planned (answer.Reply (reply.Response tag Codes.invalidField)) change.Nothing records.Nothing
           → pl ≡ confirmPlan own p tag m offset complete
       unfolding confirmPlan
       confirms-past j l k = rw (← e, h, ← a, i, j, lt-ltb _ _ l) k

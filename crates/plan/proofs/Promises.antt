@@ -5,7 +5,7 @@ use mathlib.Core.Bool.{false}
 use mathlib.Core.List.{List}
 use native.Mathlib.Omega.{arith}
 use lib.Dec.{eqb}
-use Rattle.wire.specs.Paper
+use Rattle.wire.specs.Codes
 use Rattle.reply.specs.declared.Reply.the-variants as reply
 use Rattle.task.specs.declared.scan.Pick.{Pick}
 use Rattle.task.proofs.Ways.{cond-ind, never}
@@ -31,7 +31,7 @@ kind-is-queue (suc (suc (suc (suc n)))) l = absurd (omega arith)
 pub order-answer : (f : Facts) (others p tag : ℕ) (m : List ℕ) (o : Order) → orderPlan f others p tag m o .answer ≡ answer.Reply (reply.Response tag (orderCode f m o))
 unfolding orderPlan
 order-answer f others p tag m o =
-    cond-ind (λ (pl : Plan). pl .answer ≡ answer.Reply (reply.Response tag (orderCode f m o))) (eqb (orderCode f m o .0) (Paper.done .0)) (λ _. refl) (λ _. refl)
+    cond-ind (λ (pl : Plan). pl .answer ≡ answer.Reply (reply.Response tag (orderCode f m o))) (eqb (orderCode f m o .0) (Codes.done .0)) (λ _. refl) (λ _. refl)
 
 -- CLEAR TASK SET alone looks at the other paths that have a task on the unit
 module _ (f : Facts) (own : Pick) (x y : ℕ) where

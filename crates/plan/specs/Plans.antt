@@ -4,7 +4,7 @@ use mathlib.Core.Bool.{Bool, true, false, cond, not, _&&_}
 use mathlib.Core.List.{List}
 use mathlib.Core.Option.{Option, none, some}
 use lib.Dec.{eqb, ltb}
-use Rattle.wire.specs.Paper
+use Rattle.wire.specs.Codes
 use Rattle.wire.specs.Messages.{reservedSet}
 use Rattle.wire.specs.declared.codes.Refusal.{Refusal}
 use Rattle.wire.specs.declared.codes.Queue.{Queue}
@@ -77,8 +77,8 @@ clearsSet (Confirm offset complete) = false
 -- QUEUE CNTL
 abbrev pub kindOf : Queue → Kind
 kindOf q =
-    cond (eqb (q .0) (Paper.queueAca .0)) kind.Aca
-    (cond (eqb (q .0) (Paper.queueHead .0)) kind.Head (cond (eqb (q .0) (Paper.queueOrdered .0)) kind.Ordered kind.Simple))
+    cond (eqb (q .0) (Codes.queueAca .0)) kind.Aca
+    (cond (eqb (q .0) (Codes.queueHead .0)) kind.Head (cond (eqb (q .0) (Codes.queueOrdered .0)) kind.Ordered kind.Simple))
 
 -- ---- the reply that an answer is
 
@@ -112,7 +112,7 @@ ruled next p tag lun flags Accept = planned (answer.Accepted next) (change.OfSen
 -- an order of the path at p changes the table only where it is answered 00h
 unfoldable pub orderPlan : Facts → ℕ → ℕ → ℕ → List ℕ → Order → Plan
 orderPlan f others p tag m o =
-    cond (eqb (orderCode f m o .0) (Paper.done .0))
+    cond (eqb (orderCode f m o .0) (Codes.done .0))
     (planned (answer.Reply (reply.Response tag (orderCode f m o))) (orderChange others o) (records.End (endsOf p o)))
     (planned (answer.Reply (reply.Response tag (orderCode f m o))) change.Nothing records.Nothing)
 
@@ -124,10 +124,10 @@ isAwaited own = own .found && isUnconfirmed (own .task .phase)
 -- COMPLETE clear: an offset past the bytes transferred gives FFh; else the task waits again, to start there. Neither the mark nor the attention of the sender is looked at
 unfoldable pub confirmPlan : Pick → ℕ → ℕ → List ℕ → ℕ → Bool → Plan
 confirmPlan own p tag m offset complete =
-    cond (reservedSet m) (planned (answer.Reply (reply.Response tag Paper.invalidField)) change.Nothing records.Nothing)
-    (cond (not (isAwaited own)) (refusing Paper.nothingToConfirm)
+    cond (reservedSet m) (planned (answer.Reply (reply.Response tag Codes.invalidField)) change.Nothing records.Nothing)
+    (cond (not (isAwaited own)) (refusing Codes.nothingToConfirm)
     (cond complete (planned (answer.Confirmed (own .task .arrival)) change.Nothing (records.End (numberedAs (own .task .arrival) p tag)))
-    (cond (ltb (own .task .transferred) offset) (planned (answer.Reply (reply.Response tag Paper.invalidField)) change.Nothing records.Nothing)
+    (cond (ltb (own .task .transferred) offset) (planned (answer.Reply (reply.Response tag Codes.invalidField)) change.Nothing records.Nothing)
     (planned (answer.Restarted (own .task .arrival)) change.Nothing (records.Restart (own .at) offset)))))
 
 abbrev pub planOf : Lookup → ℕ → ℕ → ℕ → List ℕ → Request → Plan

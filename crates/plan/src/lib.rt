@@ -8,7 +8,9 @@ use rules::command::Ruling;
 use rules::facts::Facts;
 use rules::facts::Lookup;
 use rules::manage::Order;
+use table::PATHS;
 use table::Path;
+use table::UNITS;
 use table::Unit;
 use task::Kind;
 use task::Phase;
@@ -30,7 +32,11 @@ pub enum Request {
 
 // Who asks for it, under which tag; or why nothing is heard.
 pub enum Asked {
-    By { path: u32, tag: u16, request: Request },
+    By {
+        path: u32,
+        tag: u16,
+        request: Request,
+    },
     Unread(Refusal),
 }
 
@@ -60,10 +66,7 @@ pub enum Answer {
     Ready,
     Accepted(u64),
     Reply(Reply),
-    Started {
-        offset: u32,
-        arrival: u64,
-    },
+    Started { offset: u32, arrival: u64 },
     Confirmed(u64),
     Restarted(u64),
     Reset,
@@ -319,8 +322,8 @@ pub fn find_plan(s: Lookup, next: u64, p: u8, tag: u16, m: &[u8], w: Request) ->
     }
 }
 
-// The sender's mark and attention, by the mood of the answer.
-fn change_sender(paths: [Path; 8], p: u8, sender: SenderChange) -> [Path; 8]
+// The sender's mark and attention after an answer to its command.
+fn change_sender(paths: [Path; PATHS], p: u8, sender: SenderChange) -> [Path; PATHS]
     ensures { λ r. ⌜ r ≡ senderAfter paths p sender ⌝ }
 {
     let at = p as usize;
@@ -328,12 +331,15 @@ fn change_sender(paths: [Path; 8], p: u8, sender: SenderChange) -> [Path; 8]
         SenderChange::Stays => paths,
         SenderChange::SetMark => table::paths::mark(paths, at, true),
         SenderChange::ClearMark => table::paths::mark(paths, at, false),
-        SenderChange::ClearMarkAndAttention => table::paths::drop_attention(table::paths::mark(paths, at, false), at),
+        SenderChange::ClearMarkAndAttention => table::paths::drop_attention(
+            table::paths::mark(paths, at, false),
+            at,
+        ),
     }
 }
 
 // The paths after a change; the first `count` are listed.
-pub fn change_paths(paths: [Path; 8], count: u8, c: Change) -> [Path; 8]
+pub fn change_paths(paths: [Path; PATHS], count: u8, c: Change) -> [Path; PATHS]
     ensures { λ r. ⌜ r ≡ pathsAfter paths count c ⌝ }
 {
     match c {
@@ -346,7 +352,7 @@ pub fn change_paths(paths: [Path; 8], count: u8, c: Change) -> [Path; 8]
 }
 
 // The units after a change.
-pub fn change_units(units: [Unit; 8], c: Change) -> [Unit; 8]
+pub fn change_units(units: [Unit; UNITS], c: Change) -> [Unit; UNITS]
     ensures { λ r. ⌜ r ≡ unitsAfter units c ⌝ }
 {
     match c {

@@ -8,8 +8,8 @@ use lib.ListN.{length, take, drop, replicate}
 use lib.Seq.{take-length}
 use lib.Dec.{leb, ltb, eqb}
 use borrow.Author.Tests.{not-true, not-false, le-ltb, lt-ltb, ltb-false, eq-eqb, ne-eqb, eqb-true, eqb-false}
-use Rattle.wire.specs.Paper.{tooShort, notHandled, smallBuffer, notWritable, replyRoom, smsCode, scsiResponse, scsiStatus}
-use Rattle.wire.specs.Paper.{invalidField, checkCondition, statusByte, sense}
+use Rattle.wire.specs.Codes.{tooShort, notHandled, smallBuffer, notWritable, replyRoom, smsCode, scsiResponse, scsiStatus}
+use Rattle.wire.specs.Codes.{invalidField, checkCondition, statusByte, sense}
 use Rattle.wire.specs.Fields.{byte, joined}
 use Rattle.wire.specs.declared.codes.ReturnCode.{ReturnCode}
 use Rattle.wire.specs.declared.codes.StatusByte.{StatusByte}

@@ -6,7 +6,7 @@ use mathlib.Core.List.{List, [], _∷_, _++_}
 use lib.ListN.{length}
 use lib.Dec.{eqb, lit<}
 use native.Mathlib.Omega.{arith}
-use Rattle.wire.specs.Paper.{tooShort, returnCode, invalidField, statusByte, sense}
+use Rattle.wire.specs.Codes.{tooShort, returnCode, invalidField, statusByte, sense}
 use Rattle.wire.specs.Fields.{byte, word}
 use Rattle.wire.proofs.Table.{cond-ind}
 use Rattle.wire.proofs.Past.{same, longer}

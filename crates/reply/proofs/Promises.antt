@@ -10,8 +10,8 @@ use lib.Seq.{take-append-seam}
 use borrow.Author.Tests.{le-ltb, eq-eqb, eqb-true, eqb-false}
 use native.Mathlib.Nat.{div-add-mod'}
 use native.Mathlib.Omega.{arith}
-use Rattle.wire.specs.Paper.{tooShort, notHandled, smallBuffer, notWritable, replyRoom}
-use Rattle.wire.specs.Paper.{smsCode, scsiStatus, checkCondition, sense, noSense}
+use Rattle.wire.specs.Codes.{tooShort, notHandled, smallBuffer, notWritable, replyRoom}
+use Rattle.wire.specs.Codes.{smsCode, scsiStatus, checkCondition, sense, noSense}
 use Rattle.wire.specs.declared.codes.Refusal.{Refusal}
 use Rattle.wire.specs.declared.codes.ReturnCode.{ReturnCode}
 use Rattle.wire.specs.declared.codes.StatusByte.{StatusByte}

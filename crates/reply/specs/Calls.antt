@@ -5,8 +5,8 @@ use mathlib.Core.List.{List, [], _∷_, _++_}
 use mathlib.Core.Bool.{Bool, true, false, cond, not, _&&_}
 use lib.ListN.{length, drop}
 use lib.Dec.{ltb, eqb}
-use Rattle.wire.specs.Paper.{tooShort, notHandled, smallBuffer, notWritable, replyRoom}
-use Rattle.wire.specs.Paper.{smsCode, scsiResponse, scsiStatus, returnCode, invalidField, statusByte, sense}
+use Rattle.wire.specs.Codes.{tooShort, notHandled, smallBuffer, notWritable, replyRoom}
+use Rattle.wire.specs.Codes.{smsCode, scsiResponse, scsiStatus, returnCode, invalidField, statusByte, sense}
 use Rattle.wire.specs.Fields.{byte, word}
 use Rattle.reply.specs.Replies.{writableOf, bytesOf, responseLength, statusLength}
 use Rattle.reply.specs.declared.Reply.{Reply}

@@ -4,7 +4,7 @@ use Prim.Native.Nat.{ℕ, _≤_}
 use mathlib.Core.Path.{_≡_}
 use mathlib.Core.List.{List, _++_}
 use lib.ListN.{length, take}
-use Rattle.wire.specs.Paper.{tooShort, replyRoom}
+use Rattle.wire.specs.Codes.{tooShort, replyRoom}
 use Rattle.wire.specs.declared.codes.Refusal.{Refusal}
 use Rattle.reply.specs.Replies.{bytesOf}
 use Rattle.reply.specs.Calls.{Writes, foundIn}

@@ -4,9 +4,9 @@ use mathlib.Core.List.{List, [], _∷_}
 use mathlib.Core.Bool.{Bool, true, false, cond, _&&_, _||_}
 use lib.ListN.{replicate}
 use lib.Dec.{leb, eqb}
-use Rattle.wire.specs.Paper.{smsCode, scsiResponse, scsiStatus, currentError, additionalSenseLength}
-use Rattle.wire.specs.Paper.{done, taskNotFound, overlapped, noAca, invalidField}
-use Rattle.wire.specs.Paper.{good, checkCondition, conditionMet, reservationConflict, taskSetFull, acaActive}
+use Rattle.wire.specs.Codes.{smsCode, scsiResponse, scsiStatus, currentError, additionalSenseLength}
+use Rattle.wire.specs.Codes.{done, taskNotFound, overlapped, noAca, invalidField}
+use Rattle.wire.specs.Codes.{good, checkCondition, conditionMet, reservationConflict, taskSetFull, acaActive}
 use Rattle.wire.specs.declared.codes.Sense.{Sense}
 use Rattle.reply.specs.declared.Reply.{Reply}
 use Rattle.reply.specs.declared.Reply.the-variants.{Response, Status, Invalid}

@@ -7,7 +7,7 @@ use mathlib.Core.Bool.{Bool, true, false, cond, not, Bool·not-not}
 use mathlib.Core.List.{List, [], _∷_}
 use lib.Dec.{eqb}
 use borrow.Author.Tests.{not-true, not-false, eq-eqb, ne-eqb}
-use Rattle.wire.specs.Paper
+use Rattle.wire.specs.Codes
 use Rattle.wire.specs.Messages.{reservedSet}
 use Rattle.wire.specs.Block.{opcode}
 use Rattle.wire.specs.declared.codes.ReturnCode.{ReturnCode}
@@ -129,12 +129,12 @@ pub ruleset first-cases = (none-applies, hit, skip, hit-it, skip-it)
 -- ---- the return code of an order
 
 module _ (f : Facts) (m : List ℕ) (o : Order) {b : Bool} (e : b ≡ reservedSet m) where
-  pub reserved : b ≡ true → Paper.invalidField ≡ orderCode f m o
+  pub reserved : b ≡ true → Codes.invalidField ≡ orderCode f m o
   unfolding orderCode
   reserved h = rw (← e, h)
 
   module _ (h : b ≡ false) {u : Bool} (k : u ≡ hasUnit o) where
-    pub no-such-unit : u ≡ true → not (f .attached) ≡ true → Paper.invalidField ≡ orderCode f m o
+    pub no-such-unit : u ≡ true → not (f .attached) ≡ true → Codes.invalidField ≡ orderCode f m o
     unfolding orderCode
     no-such-unit x y = rw (← e, h, ← k, x, y)
 

@@ -2,7 +2,7 @@
 use Prim.Native.Nat.{ℕ}
 use mathlib.Core.Bool.{Bool, true, false, cond, not, _&&_}
 use mathlib.Core.List.{List}
-use Rattle.wire.specs.Paper
+use Rattle.wire.specs.Codes
 use Rattle.wire.specs.Messages.{reservedSet}
 use Rattle.wire.specs.declared.codes.ReturnCode.{ReturnCode}
 use Rattle.task.specs.Selections.{everyTask, named, onUnit, fromOn, acaFromOn}
@@ -62,16 +62,16 @@ isClearSet TargetReset = false
 
 -- ABORT TASK: 00h, or 01h if there is none. CLEAR ACA: 00h where the sender owns the unit's ACA, else 20h. The others: 00h
 abbrev pub carriedCode : Facts → Order → ReturnCode
-carriedCode f (AbortTask tag2) = cond (f .taken) Paper.done Paper.taskNotFound
-carriedCode f (AbortTaskSet lun) = Paper.done
-carriedCode f (ClearTaskSet lun) = Paper.done
-carriedCode f (ClearAca lun) = cond (f .owned) Paper.done Paper.noAca
-carriedCode f (UnitReset lun) = Paper.done
-carriedCode f TargetReset = Paper.done
+carriedCode f (AbortTask tag2) = cond (f .taken) Codes.done Codes.taskNotFound
+carriedCode f (AbortTaskSet lun) = Codes.done
+carriedCode f (ClearTaskSet lun) = Codes.done
+carriedCode f (ClearAca lun) = cond (f .owned) Codes.done Codes.noAca
+carriedCode f (UnitReset lun) = Codes.done
+carriedCode f TargetReset = Codes.done
 
 -- a reserved field not zero, or a LUN field naming a unit not attached, gives FFh
 unfoldable pub orderCode : Facts → List ℕ → Order → ReturnCode
-orderCode f m o = cond (reservedSet m) Paper.invalidField (cond (hasUnit o && not (f .attached)) Paper.invalidField (carriedCode f o))
+orderCode f m o = cond (reservedSet m) Codes.invalidField (cond (hasUnit o && not (f .attached)) Codes.invalidField (carriedCode f o))
 
 -- ---- what else an order does, where `others` is the map of the other paths that lose a task
 

@@ -1,10 +1,10 @@
--- A command, step by step: page 01's list of eleven rules, line by line. Rule 1's four lines stand apart; the fourth is that the others go on.
+-- A command, step by step: page 01's list of eleven rules, line by line. Rule 1 has a line for each of its answers; where none of them applies, the list goes on.
 use Prim.Native.Nat.{ℕ, _+_, _/_, _%_}
 use mathlib.Core.Bool.{Bool, true, false, cond, not, _&&_, _||_}
 use mathlib.Core.List.{List, [], _∷_, _++_}
 use lib.ListN.{length}
 use lib.Dec.{eqb}
-use Rattle.wire.specs.Paper
+use Rattle.wire.specs.Codes
 use Rattle.wire.specs.Fields.{byte, word}
 use Rattle.wire.specs.Messages.{reservedSet}
 use Rattle.wire.specs.Block.{opcode, blockLength, cutShort, noBlock, linked}
@@ -21,7 +21,7 @@ use Rattle.rules.specs.declared.command.Decision.{Decision}
 
 -- QUEUE CNTL says ACA
 abbrev pub asksAca : Flags → Bool
-asksAca g = eqb (g .queue .0) (Paper.queueAca .0)
+asksAca g = eqb (g .queue .0) (Codes.queueAca .0)
 
 -- RESUME set, path not marked
 unfoldable pub resumesUnmarked : Facts → Flags → Bool
@@ -45,7 +45,7 @@ acaKindWithoutAca f g = not (f .aca) && asksAca g
 
 -- first CDB byte 12h (INQUIRY) or 03h (REQUEST SENSE)
 unfoldable pub passesAttention : List ℕ → Bool
-passesAttention m = eqb (opcode m) Paper.inquiry || eqb (opcode m) Paper.requestSense
+passesAttention m = eqb (opcode m) Codes.inquiry || eqb (opcode m) Codes.requestSense
 
 unfoldable pub resetToReport : Facts → List ℕ → Bool
 resetToReport f m = isReset (f .attention) && not (passesAttention m)
@@ -67,35 +67,35 @@ reservedField m = firstSet (byte m 9 ∷ byte m 10 / 4 % 4 ∷ byte m 11 ∷ byt
 -- 1. room, and 2. the length
 unfoldable pub roomRules : Facts → Flags → List ℕ → List Rule
 roomRules f g m =
-    rule 1 (resumesUnmarked f g) (byte m 10) (Respond Paper.invalidField Stays)
-    ∷ rule 1 (missesResume f g) (byte m 10) (Refuse Paper.discarded)
-    ∷ rule 1 (not (f .room)) (byte m 10) (Report Paper.taskSetFull Paper.noSense SetMark)
-    ∷ rule 2 (cutShort m) (length m) (Refuse Paper.tooShort)
+    rule 1 (resumesUnmarked f g) (byte m 10) (Respond Codes.invalidField Stays)
+    ∷ rule 1 (missesResume f g) (byte m 10) (Refuse Codes.discarded)
+    ∷ rule 1 (not (f .room)) (byte m 10) (Report Codes.taskSetFull Codes.noSense SetMark)
+    ∷ rule 2 (cutShort m) (length m) (Refuse Codes.tooShort)
     ∷ []
 
 -- 3. to 5.: the fields, OOT with CONFIRM, the tag. From here on the mark is cleared
 unfoldable pub fieldRules : Facts → Flags → List ℕ → List Rule
 fieldRules f g m =
-    rule 3 (reservedSet m) (reservedField m) (Respond Paper.invalidField ClearMark)
+    rule 3 (reservedSet m) (reservedField m) (Respond Codes.invalidField ClearMark)
     ∷ rule 4 (contradicts g) (byte m 10) (Invalid ClearMark)
-    ∷ rule 5 (f .taken) (word m 2) (Respond Paper.overlapped ClearMark)
+    ∷ rule 5 (f .taken) (word m 2) (Respond Codes.overlapped ClearMark)
     ∷ []
 
 -- 6. to 8.: the unit, its ACA, the sender's attention
 unfoldable pub unitRules : Facts → Flags → List ℕ → List Rule
 unitRules f g m =
-    rule 6 (not (f .attached)) (byte m 8) (Report Paper.checkCondition Paper.noSuchUnit ClearMark)
-    ∷ rule 7 (keptOutByAca f g) (byte m 10) (Report Paper.acaActive Paper.noSense ClearMark)
-    ∷ rule 7 (acaKindWithoutAca f g) (byte m 10) (Report Paper.checkCondition Paper.noAcaThere ClearMark)
-    ∷ rule 8 (resetToReport f m) (opcode m) (Report Paper.checkCondition Paper.resetOccurred ClearMarkAndAttention)
-    ∷ rule 8 (clearedToReport f m) (opcode m) (Report Paper.checkCondition Paper.clearedByAnother ClearMarkAndAttention)
+    rule 6 (not (f .attached)) (byte m 8) (Report Codes.checkCondition Codes.noSuchUnit ClearMark)
+    ∷ rule 7 (keptOutByAca f g) (byte m 10) (Report Codes.acaActive Codes.noSense ClearMark)
+    ∷ rule 7 (acaKindWithoutAca f g) (byte m 10) (Report Codes.checkCondition Codes.noAcaThere ClearMark)
+    ∷ rule 8 (resetToReport f m) (opcode m) (Report Codes.checkCondition Codes.resetOccurred ClearMarkAndAttention)
+    ∷ rule 8 (clearedToReport f m) (opcode m) (Report Codes.checkCondition Codes.clearedByAnother ClearMarkAndAttention)
     ∷ []
 
 -- 9. and 10.: the command block
 unfoldable pub blockRules : List ℕ → List Rule
 blockRules m =
-    rule 9 (noBlock m) (opcode m) (Report Paper.checkCondition Paper.unknownCommand ClearMark)
-    ∷ rule 10 (linked m) (byte m (15 + blockLength m)) (Report Paper.checkCondition Paper.invalidInBlock ClearMark)
+    rule 9 (noBlock m) (opcode m) (Report Codes.checkCondition Codes.unknownCommand ClearMark)
+    ∷ rule 10 (linked m) (byte m (15 + blockLength m)) (Report Codes.checkCondition Codes.invalidInBlock ClearMark)
     ∷ []
 
 -- 11. accepted

@@ -1,7 +1,7 @@
 // The rules of a command: the tests, and the first that applies.
 ghost use mathlib.Core.Path.{_≡_};
 ghost use mathlib.Core.List.{_++_};
-ghost use Rattle.wire.specs.Paper;
+ghost use Rattle.wire.specs.Codes;
 ghost use Rattle.rules.specs.First.{firstThat};
 ghost use Rattle.rules.specs.Rules;
 ghost use Rattle.rules.specs.Rules.{asksAca, resumesUnmarked, missesResume, passesAttention, resetToReport, clearedToReport, fieldRules, unitRules, blockRules, accepts, deciding, decision};
@@ -144,7 +144,7 @@ fn report(rule: u8, status: StatusByte, sense: Sense, sender: SenderChange) -> D
 
 // CHECK CONDITION, with sense.
 fn check(rule: u8, sense: Sense, sender: SenderChange) -> Decision
-    ensures { λ r. ⌜ r ≡ Rules.decided rule (Ruling.Report Paper.checkCondition sense sender) ⌝ }
+    ensures { λ r. ⌜ r ≡ Rules.decided rule (Ruling.Report Codes.checkCondition sense sender) ⌝ }
 {
     report(rule, StatusByte::CHECK_CONDITION, sense, sender)
 }
@@ -173,16 +173,29 @@ fn by_unit(f: Facts, g: Flags, m: &[u8]) -> Decision
         return check(6, Sense::NO_SUCH_UNIT, SenderChange::ClearMark);
     }
     if kept_out_by_aca(f, g) {
-        return report(7, StatusByte::ACA_ACTIVE, Sense::NONE, SenderChange::ClearMark);
+        return report(
+            7,
+            StatusByte::ACA_ACTIVE,
+            Sense::NONE,
+            SenderChange::ClearMark,
+        );
     }
     if aca_kind_without_aca(f, g) {
         return check(7, Sense::NO_ACA_THERE, SenderChange::ClearMark);
     }
     if reset_to_report(f, m) {
-        return check(8, Sense::RESET_OCCURRED, SenderChange::ClearMarkAndAttention);
+        return check(
+            8,
+            Sense::RESET_OCCURRED,
+            SenderChange::ClearMarkAndAttention,
+        );
     }
     if cleared_to_report(f, m) {
-        return check(8, Sense::CLEARED_BY_ANOTHER, SenderChange::ClearMarkAndAttention);
+        return check(
+            8,
+            Sense::CLEARED_BY_ANOTHER,
+            SenderChange::ClearMarkAndAttention,
+        );
     }
     by_block(m)
 }
@@ -227,7 +240,12 @@ pub fn decide(f: Facts, g: Flags, m: &[u8]) -> Decision
         return refuse(1, Refusal::DISCARDED);
     }
     if !f.room {
-        return report(1, StatusByte::TASK_SET_FULL, Sense::NONE, SenderChange::SetMark);
+        return report(
+            1,
+            StatusByte::TASK_SET_FULL,
+            Sense::NONE,
+            SenderChange::SetMark,
+        );
     }
     if wire::block::cut_short(m) {
         return refuse(2, Refusal::TOO_SHORT);

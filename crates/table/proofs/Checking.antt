@@ -5,7 +5,7 @@ use mathlib.Core.Bool.{Bool, false, not, _&&_, _||_}
 use mathlib.Core.List.{List}
 use lib.Dec.{eqb, ltb}
 use lib.ListN.{length}
-use Rattle.task.specs.Index.{some}
+use Rattle.task.specs.Index.{someBelow}
 use Rattle.task.specs.Tasks.{isAca, isWaiting}
 use Rattle.task.specs.declared.Task.{Task}
 use Rattle.task.proofs.Ways.{equal, below, past, and-no, and-yes}
@@ -36,7 +36,7 @@ module _ (t : Table) where
   clashAt i j = clashOf (t .live) i (taskAt t i) j (taskAt t j)
 
   abbrev pub clashBelow : ℕ → Bool
-  clashBelow i = some i (clashAt i)
+  clashBelow i = someBelow i (clashAt i)
 
 -- ---- a record whose numbers are all 0: what else is asked of it
 

@@ -11,7 +11,7 @@ use lib.Dec.{eqb, ltb}
 use lib.ListN.{length, getD, set, replicate, length-append, length-set, length-replicate, List·getD-append}
 use lib.Seq.{getD-set-same, getD-set-other, getD-append-add}
 use borrow.Author.Tests.{lt-ltb, le-ltb, ltb-true, ltb-false, leb-true, eq-eqb, ne-eqb, eqb-false}
-use Rattle.task.specs.Index.{some as someBelow, mapAt}
+use Rattle.task.specs.Index.{someBelow, mapAt}
 use Rattle.task.specs.Tasks.{noTask, isAca, isRunning, inPhase, awaits}
 use Rattle.task.specs.Map.{isLive, lowestFree, withBit}
 use Rattle.task.specs.Selections.{picks, named, acaOn, runningOn, runningAs}

@@ -12,7 +12,7 @@ use lib.Dec.{eqb}
 use lib.ListN.{length, getD, set, take, replicate}
 use lib.Seq.{take-suc, take-length, length-take-le}
 use borrow.Author.Tests.{lt-ltb, le-ltb, eq-eqb, ne-eqb}
-use Rattle.task.specs.Index.{some}
+use Rattle.task.specs.Index.{someBelow}
 use Rattle.task.proofs.Ways.{never}
 use Rattle.task.proofs.Places.{lt-or-le}
 use Rattle.table.specs.Tables.{noPath, zeroTable}
@@ -62,7 +62,7 @@ module _ (ids : List ℕ) where
   unfolding badList
   many-ids h = rw (lt-ltb 8 (length ids) h, or-true (eqb (length ids) 0))
 
-  pub few-ids : {b : Bool} → (length ids ≡ 0 → ⊥) → length ids ≤ 8 → b ≡ some (length ids) (seenBefore ids) → b ≡ badList ids
+  pub few-ids : {b : Bool} → (length ids ≡ 0 → ⊥) → length ids ≤ 8 → b ≡ someBelow (length ids) (seenBefore ids) → b ≡ badList ids
   unfolding badList
   few-ids h l e = rw (ne-eqb (length ids) 0 h, le-ltb 8 (length ids) l) e
 

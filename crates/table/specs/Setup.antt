@@ -4,7 +4,7 @@ use mathlib.Core.Bool.{Bool, false, cond, _||_}
 use mathlib.Core.List.{List, [], _∷_, _++_}
 use lib.ListN.{length, getD, replicate}
 use lib.Dec.{eqb, ltb}
-use Rattle.task.specs.Index.{some}
+use Rattle.task.specs.Index.{someBelow}
 use Rattle.task.specs.Tasks.{noTask}
 use Rattle.table.specs.Tables.{noPath, noUnit, zeroTable}
 use Rattle.table.specs.declared.Attention.the-variants as attention
@@ -13,11 +13,11 @@ use Rattle.table.specs.declared.Table.{Table}
 
 -- id i stands among those before it
 abbrev pub seenBefore : List ℕ → ℕ → Bool
-seenBefore ids i = some i (λ j. eqb (getD ids i 0) (getD ids j 0))
+seenBefore ids i = someBelow i (λ j. eqb (getD ids i 0) (getD ids j 0))
 
 -- 0 paths, over 8, or an id twice
 unfoldable pub badList : List ℕ → Bool
-badList ids = eqb (length ids) 0 || (ltb 8 (length ids) || some (length ids) (seenBefore ids))
+badList ids = eqb (length ids) 0 || (ltb 8 (length ids) || someBelow (length ids) (seenBefore ids))
 
 -- each id with no mark and reset attention
 abbrev pub freshPath : ℕ → path.Path

@@ -6,7 +6,7 @@ use mathlib.Core.List.{List}
 use mathlib.Core.Option.{none, some}
 use lib.ListN.{length}
 use lib.Dec.{eqb, ltb, leb}
-use Rattle.task.specs.Index.{all, some as someBelow}
+use Rattle.task.specs.Index.{allBelow, someBelow}
 use Rattle.task.specs.Tasks.{noTask, isAca, isWaiting, isRunning}
 use Rattle.task.specs.Map.{isLive}
 use Rattle.task.specs.declared.Task.{Task}
@@ -88,16 +88,16 @@ countOk t = not (eqb (t .count) 0) && leb (t .count) 8
 
 -- every listed path is the first with its id
 unfoldable pub pathsDistinct : Table → Bool
-pathsDistinct t = all 8 (λ p. not (ltb p (t .count)) || eqb (pathOf t (pathAt t p .id)) p)
+pathsDistinct t = allBelow 8 (λ p. not (ltb p (t .count)) || eqb (pathOf t (pathAt t p .id)) p)
 
 unfoldable pub unusedZero : Table → Bool
-unusedZero t = all 8 (λ p. ltb p (t .count) || isNoPath (pathAt t p))
+unusedZero t = allBelow 8 (λ p. ltb p (t .count) || isNoPath (pathAt t p))
 
 unfoldable pub recordsOk : Table → Bool
-recordsOk t = all 64 (λ i. recordOk (t .live) (t .next) (t .count) (t .attached) (acaAt (t .units) (taskAt t i .unit)) i (taskAt t i))
+recordsOk t = allBelow 64 (λ i. recordOk (t .live) (t .next) (t .count) (t .attached) (acaAt (t .units) (taskAt t i .unit)) i (taskAt t i))
 
 unfoldable pub unitsOk : Table → Bool
-unitsOk t = all 8 (λ u. unitOk (t .count) (t .attached) u (unitAt t u))
+unitsOk t = allBelow 8 (λ u. unitOk (t .count) (t .attached) u (unitAt t u))
 
 -- two tasks that can't stand on one unit: both run, or both are ACA tasks
 abbrev pub cannotShareUnit : Task → Task → Bool

@@ -4,7 +4,7 @@ use mathlib.Core.Bool.{Bool, true, false, cond, not, _&&_}
 use mathlib.Core.List.{List}
 use lib.ListN.{getD, set, replicate}
 use lib.Dec.{eqb, ltb, leb}
-use Rattle.task.specs.Index.{first, some, mapOf, mapAt}
+use Rattle.task.specs.Index.{first, someBelow, mapOf, mapAt}
 use Rattle.task.specs.Tasks.{noTask, acceptedAs, isRunning, runs, awaits, restarts}
 use Rattle.task.specs.Map.{isLive, lowestFree, withBit}
 use Rattle.task.specs.Selections.{picks, picksLive, fromOn, runningAs}
@@ -96,7 +96,7 @@ abbrev pub picksAt : Table → Selection → ℕ → Bool
 picksAt t s i = picksLive (t .live) s i (taskAt t i)
 
 unfoldable pub anyLive : Table → Selection → Bool
-anyLive t s = some 64 (picksAt t s)
+anyLive t s = someBelow 64 (picksAt t s)
 
 unfoldable pub pickOf : Table → Selection → Pick
 pickOf t s = scan (t .live) s (t .tasks)
@@ -122,7 +122,7 @@ withUnits t l = record { live = t .live; next = t .next; count = t .count; attac
 
 -- ---- tasks
 
--- a new waiting task under the next arrival number, in record i
+-- the table with a task in record i, which is live then, and the next arrival number taken
 abbrev pub putAt : Table → ℕ → Task → Table
 putAt t i a = record {
   live = withBit (t .live) i;
@@ -134,6 +134,7 @@ putAt t i a = record {
   tasks = set (t .tasks) i a;
 }
 
+-- a new task, waiting, under the next arrival number
 abbrev pub newTask : Table → ℕ → ℕ → ℕ → Kind → Bool → Task
 newTask t path tag unit kind confirm = acceptedAs (t .next) path tag unit kind confirm
 

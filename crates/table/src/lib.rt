@@ -5,6 +5,7 @@ pub mod setup;
 pub mod sound;
 pub mod units;
 
+use task::RECORDS;
 use task::Task;
 
 // A path's pending unit attention. The first variant is the zero of a wiped record, here and in Aca.
@@ -37,9 +38,9 @@ pub struct Table {
     pub next: u64,
     pub count: u8,
     pub attached: u8,
-    pub paths: [Path; 8],
-    pub units: [Unit; 8],
-    pub tasks: [Task; 64],
+    pub paths: [Path; PATHS],
+    pub units: [Unit; UNITS],
+    pub tasks: [Task; RECORDS],
 }
 
 // The table's limits, beside task::RECORDS; LAST_ARRIVAL is the last arrival number that a command can take, 2^64 - 2.

@@ -91,7 +91,7 @@ fn with_cleared_attention(a: Path) -> Path
 }
 
 // The place of an id among the first `count` of the paths, or 8.
-pub(crate) fn place_of(paths: [Path; 8], count: u8, id: u32) -> usize
+pub(crate) fn place_of(paths: [Path; PATHS], count: u8, id: u32) -> usize
     ensures { λ r. ⌜ r ≡ placeOf paths count id ⌝ }
 {
     let count = count as usize;
@@ -117,7 +117,7 @@ fn has_id(count: usize, id: u32, p: usize, a: Path) -> bool
 }
 
 // The path's mark set or cleared.
-pub fn mark(mut paths: [Path; 8], p: usize, full: bool) -> [Path; 8]
+pub fn mark(mut paths: [Path; PATHS], p: usize, full: bool) -> [Path; PATHS]
     ensures { λ r. ⌜ r ≡ markedIn paths p full ⌝ }
 {
     if p >= PATHS {
@@ -130,7 +130,7 @@ pub fn mark(mut paths: [Path; 8], p: usize, full: bool) -> [Path; 8]
 }
 
 // The path's pending attention becomes none.
-pub fn drop_attention(mut paths: [Path; 8], p: usize) -> [Path; 8]
+pub fn drop_attention(mut paths: [Path; PATHS], p: usize) -> [Path; PATHS]
     ensures { λ r. ⌜ r ≡ attentionGoneIn paths p ⌝ }
 {
     if p >= PATHS {
@@ -146,7 +146,7 @@ pub fn drop_attention(mut paths: [Path; 8], p: usize) -> [Path; 8]
 }
 
 // Reset attention on each of the first `count` paths, and with `unmark` its mark gone.
-pub fn give_reset_attention(mut paths: [Path; 8], count: u8, unmark: bool) -> [Path; 8]
+pub fn give_reset_attention(mut paths: [Path; PATHS], count: u8, unmark: bool) -> [Path; PATHS]
     ensures { λ r. ⌜ r ≡ resetAttentionIn paths count unmark ⌝ }
 {
     let n = count as usize;
@@ -163,7 +163,7 @@ pub fn give_reset_attention(mut paths: [Path; 8], count: u8, unmark: bool) -> [P
 }
 
 // Cleared attention on each path of the map, unless reset is pending.
-pub fn give_cleared_attention(mut paths: [Path; 8], others: u8) -> [Path; 8]
+pub fn give_cleared_attention(mut paths: [Path; PATHS], others: u8) -> [Path; PATHS]
     ensures { λ r. ⌜ r ≡ clearedAttentionIn paths others ⌝ }
 {
     let mut p: usize = 0;

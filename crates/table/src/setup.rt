@@ -47,7 +47,7 @@ pub fn bad_list(ids: &[u32]) -> bool
 }
 
 // The path list of setup: each id with no mark and reset attention, the rest wiped.
-fn listed(ids: &[u32]) -> [Path; 8]
+fn listed(ids: &[u32]) -> [Path; PATHS]
     requires { ⌜ length (now ids) ≤ 8 ⌝ }
     ensures { λ r. ⌜ r ≡ pathsOf (now (ids .entry)) ⌝ }
 {

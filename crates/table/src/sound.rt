@@ -7,12 +7,12 @@ use crate::Aca;
 use crate::MOST_PATHS;
 use crate::PATHS;
 use crate::Path;
-use task::RECORDS;
 use crate::Table;
 use crate::UNITS;
 use crate::Unit;
 use task::Kind;
 use task::Phase;
+use task::RECORDS;
 use task::Task;
 
 fn is_aca(k: Kind) -> bool

@@ -36,7 +36,7 @@ pub fn owned_by(aca: Aca, path: u8) -> bool
 }
 
 // The ACA of a unit, and none past the end.
-pub(crate) fn aca_at(units: [Unit; 8], unit: u8) -> Aca
+pub(crate) fn aca_at(units: [Unit; UNITS], unit: u8) -> Aca
     ensures { λ r. ⌜ r ≡ acaAt units unit ⌝ }
 {
     let u = unit as usize;
@@ -48,7 +48,7 @@ pub(crate) fn aca_at(units: [Unit; 8], unit: u8) -> Aca
 }
 
 // The unit's ACA is the path's, unless it has one.
-pub(crate) fn claim(mut units: [Unit; 8], unit: u8, path: u8) -> [Unit; 8]
+pub(crate) fn claim(mut units: [Unit; UNITS], unit: u8, path: u8) -> [Unit; UNITS]
     ensures { λ r. ⌜ r ≡ claimedIn units unit path ⌝ }
 {
     let u = unit as usize;
@@ -70,7 +70,7 @@ pub(crate) fn claim(mut units: [Unit; 8], unit: u8, path: u8) -> [Unit; 8]
 }
 
 // The unit's ACA goes, or that of every unit.
-pub fn clear_aca(mut units: [Unit; 8], place: Place) -> [Unit; 8]
+pub fn clear_aca(mut units: [Unit; UNITS], place: Place) -> [Unit; UNITS]
     ensures { λ r. ⌜ r ≡ acaClearedIn units place ⌝ }
 {
     let none = no_unit();

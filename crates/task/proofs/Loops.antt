@@ -7,49 +7,49 @@ use native.Mathlib.Nat.{le-antisymm, pow-suc}
 use native.Mathlib.Numerals.{add-one}
 use native.Mathlib.Omega.{arith}
 use borrow.Author.Tests.{not-true, not-false}
-use Rattle.task.specs.Index.{first, some, all, one, mapOf}
+use Rattle.task.specs.Index.{first, someBelow, allBelow, one, mapOf}
 use Rattle.task.proofs.Places.{some-at, none-at, all-off, first-is, first-none}
 
 module _ (p : ℕ → Bool) where
-  pub some-start : some 0 p ≡ false
-  unfolding some
+  pub some-start : someBelow 0 p ≡ false
+  unfolding someBelow
   some-start = refl
 
-  pub some-more : {b : Bool} (i : ℕ) → some i p ≡ false → b ≡ p i → b ≡ false → some (i + 1) p ≡ false
-  unfolding some
+  pub some-more : {b : Bool} (i : ℕ) → someBelow i p ≡ false → b ≡ p i → b ≡ false → someBelow (i + 1) p ≡ false
+  unfolding someBelow
   some-more i h e f = rw (add-one, h, ← e, f)
 
-  pub all-start : all 0 p ≡ true
-  unfolding all
+  pub all-start : allBelow 0 p ≡ true
+  unfolding allBelow
   all-start = refl
 
-  pub all-more : {b : Bool} (i : ℕ) → all i p ≡ true → b ≡ p i → b ≡ true → all (i + 1) p ≡ true
-  unfolding all
+  pub all-more : {b : Bool} (i : ℕ) → allBelow i p ≡ true → b ≡ p i → b ≡ true → allBelow (i + 1) p ≡ true
+  unfolding allBelow
   all-more i h e f = rw (add-one, h, ← e, f)
 
-  pub all-more-not : {b : Bool} (i : ℕ) → all i p ≡ true → b ≡ p i → not b ≡ false → all (i + 1) p ≡ true
+  pub all-more-not : {b : Bool} (i : ℕ) → allBelow i p ≡ true → b ≡ p i → not b ≡ false → allBelow (i + 1) p ≡ true
   all-more-not {b} i h e f = all-more i h e (not-false b f)
 
   module _ (n : ℕ) {i : ℕ} where
-    pub some-hit : {b : Bool} → i < n → b ≡ p i → b ≡ true → true ≡ some n p
+    pub some-hit : {b : Bool} → i < n → b ≡ p i → b ≡ true → true ≡ someBelow n p
     some-hit l e h = sym (some-at n i p l (sym e ∙ h))
 
-    pub some-end : i ≤ n → n ≤ i → some i p ≡ false → false ≡ some n p
+    pub some-end : i ≤ n → n ≤ i → someBelow i p ≡ false → false ≡ someBelow n p
     some-end l m h = rw (← le-antisymm l m) (sym h)
 
-    pub all-miss : {b : Bool} → i < n → b ≡ p i → b ≡ false → false ≡ all n p
+    pub all-miss : {b : Bool} → i < n → b ≡ p i → b ≡ false → false ≡ allBelow n p
     all-miss l e h = sym (all-off n i p l (sym e ∙ h))
 
-    pub all-miss-not : {b : Bool} → i < n → b ≡ p i → not b ≡ true → false ≡ all n p
+    pub all-miss-not : {b : Bool} → i < n → b ≡ p i → not b ≡ true → false ≡ allBelow n p
     all-miss-not {b} l e h = all-miss l e (not-true b h)
 
-    pub all-end : i ≤ n → n ≤ i → all i p ≡ true → true ≡ all n p
+    pub all-end : i ≤ n → n ≤ i → allBelow i p ≡ true → true ≡ allBelow n p
     all-end l m h = rw (← le-antisymm l m) (sym h)
 
-    pub first-hit : {b : Bool} → i < n → some i p ≡ false → b ≡ p i → b ≡ true → i ≡ first n p
+    pub first-hit : {b : Bool} → i < n → someBelow i p ≡ false → b ≡ p i → b ≡ true → i ≡ first n p
     first-hit l f e h = sym (first-is n i p l (sym e ∙ h) (λ k m. none-at i k p f m))
 
-    pub first-end : i ≤ n → n ≤ i → some i p ≡ false → n ≡ first n p
+    pub first-end : i ≤ n → n ≤ i → someBelow i p ≡ false → n ≡ first n p
     first-end l m f = sym (first-none n p (λ k r. none-at i k p f (omega arith)))
 
 pub ruleset some-loop = (some-start, some-more, some-hit, some-end)

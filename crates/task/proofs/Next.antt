@@ -10,7 +10,7 @@ use native.Mathlib.Omega.{arith}
 use lib.Dec.{ltb}
 use lib.ListN.{length, getD, drop}
 use borrow.Author.Tests.{ltb-true, ltb-false}
-use Rattle.task.specs.Index.{some}
+use Rattle.task.specs.Index.{someBelow}
 use Rattle.task.specs.Tasks.{noTask, isHead}
 use Rattle.task.specs.Selections.{picksLive}
 use Rattle.task.specs.Scan.{nobody, takenAt, considered, scanFrom, scan}
@@ -120,10 +120,10 @@ module _ (live : ℕ) (s : Selection) (tasks : List Task) where
   pub scan-stands : scan live s tasks .found ≡ true → Stands live s tasks (length tasks) (scan live s tasks)
   scan-stands e = standing (scan live s tasks) (scan-is-next live s tasks) e
 
-  tells : (r : Pick) → Next live s tasks (length tasks) r → r .found ≡ some (length tasks) takes
+  tells : (r : Pick) → Next live s tasks (length tasks) r → r .found ≡ someBelow (length tasks) takes
   tells r (no-one f h) = f ∙ sym (some-none (length tasks) takes (λ i l. elim (either-way (takes i)) [ inl y ↦ absurd (h i l y) | inr n ↦ n ]))
   tells r (highest-head t d h) = t .found ∙ sym (some-at (length tasks) (r .at) takes (t .below) (t .takes))
   tells r (lowest t d h) = t .found ∙ sym (some-at (length tasks) (r .at) takes (t .below) (t .takes))
 
-  pub found-is-some : scan live s tasks .found ≡ some (length tasks) (λ i. picksLive live s i (getD tasks i noTask))
+  pub found-is-some : scan live s tasks .found ≡ someBelow (length tasks) (λ i. picksLive live s i (getD tasks i noTask))
   found-is-some = tells (scan live s tasks) (scan-is-next live s tasks)

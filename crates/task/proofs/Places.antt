@@ -7,7 +7,7 @@ use native.Mathlib.Nat.{le-of-suc-le-suc, eq-or-lt-of-le}
 use native.Mathlib.Omega.{arith}
 use lib.Dec.{ltb}
 use borrow.Author.Tests.{ltb-true, ltb-false}
-use Rattle.task.specs.Index.{first, some, all, sum, one, mapOf}
+use Rattle.task.specs.Index.{first, someBelow, allBelow, sum, one, mapOf}
 use Rattle.task.proofs.Ways.{cond-ind, either-way, never}
 
 -- a place below n + 1 is n, or below n
@@ -60,48 +60,48 @@ first-ext (suc n) p q h =
 
 -- ---- some
 
-pub some-at : (n i : ℕ) (p : ℕ → Bool) → i < n → p i ≡ true → some n p ≡ true
-unfolding some
+pub some-at : (n i : ℕ) (p : ℕ → Bool) → i < n → p i ≡ true → someBelow n p ≡ true
+unfolding someBelow
 some-at zero i p l e = absurd (omega arith)
 some-at (suc n) i p l e =
-    ⊎-elim (λ q. ap (λ (b : Bool). some n p || b) (ap p (sym q) ∙ e) ∙ or-true (some n p))
+    ⊎-elim (λ q. ap (λ (b : Bool). someBelow n p || b) (ap p (sym q) ∙ e) ∙ or-true (someBelow n p))
     (λ m. ap (λ (b : Bool). b || p n) (some-at n i p m e)) (below-suc l)
 
-pub some-find : (n : ℕ) (p : ℕ → Bool) → some n p ≡ true → (i : ℕ) × (i < n) × (p i ≡ true)
-unfolding some
+pub some-find : (n : ℕ) (p : ℕ → Bool) → someBelow n p ≡ true → (i : ℕ) × (i < n) × (p i ≡ true)
+unfolding someBelow
 some-find zero p e = absurd (never e refl)
 some-find (suc n) p e = elim (either-way (p n)) [
   | inl h ↦ (n, omega arith, h)
-  | inr h ↦ let r : (i : ℕ) × (i < n) × (p i ≡ true) = some-find n p (last (some n p) h e) in (r .0, omega (arith, r .1), r .2)
+  | inr h ↦ let r : (i : ℕ) × (i < n) × (p i ≡ true) = some-find n p (last (someBelow n p) h e) in (r .0, omega (arith, r .1), r .2)
 ]
   where
     last : (b : Bool) {c : Bool} → c ≡ false → (b || c) ≡ true → b ≡ true
     last true h e = refl
     last false h e = sym h ∙ e
 
-pub some-none : (n : ℕ) (p : ℕ → Bool) → ((i : ℕ) → i < n → p i ≡ false) → some n p ≡ false
-unfolding some
+pub some-none : (n : ℕ) (p : ℕ → Bool) → ((i : ℕ) → i < n → p i ≡ false) → someBelow n p ≡ false
+unfolding someBelow
 some-none zero p h = refl
 some-none (suc n) p h = ap₂ _||_ (some-none n p (λ i l. h i (omega arith))) (h n (omega arith))
 
-pub none-at : (n i : ℕ) (p : ℕ → Bool) → some n p ≡ false → i < n → p i ≡ false
+pub none-at : (n i : ℕ) (p : ℕ → Bool) → someBelow n p ≡ false → i < n → p i ≡ false
 none-at n i p e l = elim (either-way (p i)) [ inl h ↦ absurd (never (some-at n i p l h) e) | inr h ↦ h ]
 
 -- ---- all
 
-pub all-of : (n : ℕ) (p : ℕ → Bool) → ((i : ℕ) → i < n → p i ≡ true) → all n p ≡ true
-unfolding all
+pub all-of : (n : ℕ) (p : ℕ → Bool) → ((i : ℕ) → i < n → p i ≡ true) → allBelow n p ≡ true
+unfolding allBelow
 all-of zero p h = refl
 all-of (suc n) p h = ap₂ _&&_ (all-of n p (λ i l. h i (omega arith))) (h n (omega arith))
 
-pub all-off : (n i : ℕ) (p : ℕ → Bool) → i < n → p i ≡ false → all n p ≡ false
-unfolding all
+pub all-off : (n i : ℕ) (p : ℕ → Bool) → i < n → p i ≡ false → allBelow n p ≡ false
+unfolding allBelow
 all-off zero i p l e = absurd (omega arith)
 all-off (suc n) i p l e =
-    ⊎-elim (λ q. ap (λ (b : Bool). all n p && b) (ap p (sym q) ∙ e) ∙ and-false (all n p))
+    ⊎-elim (λ q. ap (λ (b : Bool). allBelow n p && b) (ap p (sym q) ∙ e) ∙ and-false (allBelow n p))
     (λ m. ap (λ (b : Bool). b && p n) (all-off n i p m e)) (below-suc l)
 
-pub all-at : (n i : ℕ) (p : ℕ → Bool) → all n p ≡ true → i < n → p i ≡ true
+pub all-at : (n i : ℕ) (p : ℕ → Bool) → allBelow n p ≡ true → i < n → p i ≡ true
 all-at n i p e l = elim (either-way (p i)) [ inl h ↦ h | inr h ↦ absurd (never e (all-off n i p l h)) ]
 
 -- ---- sum

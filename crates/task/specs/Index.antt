@@ -9,14 +9,14 @@ first zero p = zero
 first (suc n) p = cond (p zero) zero (suc (first n (λ i. p (suc i))))
 
 -- whether p picks some place below n
-unfoldable pub some : ℕ → (ℕ → Bool) → Bool
-some zero p = false
-some (suc n) p = some n p || p n
+unfoldable pub someBelow : ℕ → (ℕ → Bool) → Bool
+someBelow zero p = false
+someBelow (suc n) p = someBelow n p || p n
 
 -- whether p picks every place below n
-unfoldable pub all : ℕ → (ℕ → Bool) → Bool
-all zero p = true
-all (suc n) p = all n p && p n
+unfoldable pub allBelow : ℕ → (ℕ → Bool) → Bool
+allBelow zero p = true
+allBelow (suc n) p = allBelow n p && p n
 
 -- the sum of f over the places below n
 unfoldable pub sum : ℕ → (ℕ → ℕ) → ℕ

@@ -1,7 +1,7 @@
 -- A task's record: the wiped one, and the numbers of kinds and phases.
 use Prim.Native.Nat.{ℕ}
 use mathlib.Core.Bool.{Bool, true, false}
-use Rattle.wire.specs.Paper
+use Rattle.wire.specs.Codes
 use Rattle.task.specs.declared.Kind.{Kind}
 use Rattle.task.specs.declared.Kind.the-variants as kind
 use Rattle.task.specs.declared.Phase.{Phase}
@@ -10,10 +10,10 @@ use Rattle.task.specs.declared.Task.{Task}
 
 -- QUEUE CNTL (003, table 6)
 abbrev pub kindNumber : Kind → ℕ
-kindNumber kind.Aca = Paper.queueAca .0
-kindNumber kind.Head = Paper.queueHead .0
-kindNumber kind.Ordered = Paper.queueOrdered .0
-kindNumber kind.Simple = Paper.queueSimple .0
+kindNumber kind.Aca = Codes.queueAca .0
+kindNumber kind.Head = Codes.queueHead .0
+kindNumber kind.Ordered = Codes.queueOrdered .0
+kindNumber kind.Simple = Codes.queueSimple .0
 
 abbrev pub isAca : Kind → Bool
 isAca kind.Aca = true

@@ -6,7 +6,7 @@ use crate::Kind;
 use crate::Task;
 use crate::select::Selection;
 
-// The best so far: the task, where it stands, and whether there is one.
+// What the scan picked, at its end or so far: the task, the record that it stands in, and whether there is one.
 pub struct Pick {
     pub task: Task,
     pub at: usize,

@@ -8,7 +8,7 @@ use lib.ListN.{length, take, drop, replicate}
 use lib.Dec.{ltb}
 use native.Mathlib.Omega.{arith}
 use borrow.Author.Tests.{ltb-true, eq-eqb, ne-eqb, lt-ltb, le-ltb, le-leb, lt-leb, not-true, not-false}
-use Rattle.wire.specs.Paper
+use Rattle.wire.specs.Codes
 use Rattle.wire.proofs.Table.{cond-ind}
 use Rattle.task.specs.Map.{liveCount}
 use Rattle.table.specs.Tables.{zeroTable}
@@ -114,7 +114,7 @@ module _ (t : Table) (s : List ℕ) {e : Event} {o : Outcome} where
 
   pub call-finish :
       {arrival status key code qualifier transferred : ℕ} {buf left : List ℕ} → e ≡ Finish arrival status key code qualifier transferred
-      → Answers (finishOf t arrival (Paper.statusByte status) (Paper.sense key code qualifier) transferred 64) buf o left → o ≡ called t s e
+      → Answers (finishOf t arrival (Codes.statusByte status) (Codes.sense key code qualifier) transferred 64) buf o left → o ≡ called t s e
   unfolding called
   call-finish q a = a .outcome ∙ rw q
 
@@ -192,11 +192,11 @@ module _ (p : Player) {r : Line} where
   unfolding lastText
   input-done e n q = q ∙ rw (e, n)
 
-  pub input-bad : p .state ≡ state.Bad → r ≡ pushAll emptyLine (endOf Paper.malformed) → r ≡ lastLine p
+  pub input-bad : p .state ≡ state.Bad → r ≡ pushAll emptyLine (endOf Codes.malformed) → r ≡ lastLine p
   unfolding lastText
   input-bad e q = q ∙ rw e
 
-  pub setup-refused : p .state ≡ state.Refused → r ≡ pushAll emptyLine (endOf Paper.badPaths) → r ≡ lastLine p
+  pub setup-refused : p .state ≡ state.Refused → r ≡ pushAll emptyLine (endOf Codes.badPaths) → r ≡ lastLine p
   unfolding lastText
   setup-refused e q = q ∙ rw e
 

@@ -5,7 +5,7 @@ use mathlib.Core.Bool.{Bool, true, false, cond}
 use mathlib.Core.List.{List, [], _++_}
 use lib.ListN.{length, take}
 use lib.Dec.{ltb, leb, eqb}
-use Rattle.wire.specs.Paper
+use Rattle.wire.specs.Codes
 use Rattle.task.specs.Map.{liveCount}
 use Rattle.table.specs.Tables.{zeroTable}
 use Rattle.table.specs.declared.Table.{Table}
@@ -117,8 +117,8 @@ lastText p = byState (p .state)
     byState : State → List ℕ
     byState state.Playing = []
     byState state.Done = endOk (liveCount (p .table .live))
-    byState state.Bad = endOf Paper.malformed
-    byState state.Refused = endOf Paper.badPaths
+    byState state.Bad = endOf Codes.malformed
+    byState state.Refused = endOf Codes.badPaths
 
 abbrev pub lastLine : Player → Line
 lastLine p = pushAll emptyLine (lastText p)

@@ -4,7 +4,7 @@ use mathlib.Core.List.{List, [], _++_}
 use mathlib.Core.Bool.{cond, _||_}
 use lib.ListN.{length, take, drop}
 use lib.Dec.{ltb, eqb}
-use Rattle.wire.specs.Paper
+use Rattle.wire.specs.Codes
 use Rattle.wire.specs.declared.codes.Refusal.{Refusal}
 use Rattle.task.specs.Map.{liveCount}
 use Rattle.table.specs.Setup.{badList}
@@ -25,7 +25,7 @@ longest = 65536
 
 -- the last line of an input that is refused: `end bad` for a malformed one, the refusal's number for any other
 abbrev pub endOf : Refusal → List ℕ
-endOf r = cond (eqb (r .0) (Paper.malformed .0)) endBad (endRefused (r .0))
+endOf r = cond (eqb (r .0) (Codes.malformed .0)) endBad (endRefused (r .0))
 
 -- the part of the input from one place up to another
 unfoldable pub partOf : List ℕ → ℕ → ℕ → List ℕ
@@ -35,12 +35,12 @@ partOf s from until = cond (ltb until from || ltb (length s) until) [] (take (un
 unfoldable pub called : Table → List ℕ → Event → Outcome
 called t s (Message from until) = messageOf t (partOf s from until) 64
 called t s (Start unit) = startOf t unit
-called t s (Finish arrival status key code qualifier transferred) = finishOf t arrival (Paper.statusByte status) (Paper.sense key code qualifier) transferred 64
+called t s (Finish arrival status key code qualifier transferred) = finishOf t arrival (Codes.statusByte status) (Codes.sense key code qualifier) transferred 64
 called t s TotalReset = totalResetOf t
 
 -- by the event at a place: its line and the text after it; `end bad` where it is malformed
 unfoldable pub byEvent : Next → (Event → ℕ → List ℕ) → List ℕ
-byEvent Bad f = endOf Paper.malformed
+byEvent Bad f = endOf Codes.malformed
 byEvent (Is e next) f = f e next
 
 -- the text from a place on, after n events; `left` bounds the events that can follow: each takes a byte at least
@@ -53,10 +53,10 @@ textFrom (suc left) t n s at =
 
 -- 12 before 11: a malformed header is `end bad`, a refused setup `end refused 11` alone
 unfoldable pub byHeading : List ℕ → Heading → List ℕ
-byHeading s malformed = endOf Paper.malformed
+byHeading s malformed = endOf Codes.malformed
 byHeading s (heading ids mask first next) =
-    cond (badList ids) (endOf Paper.badPaths) (textFrom (length s + 1) (setupOf ids mask first .table) 0 s next)
+    cond (badList ids) (endOf Codes.badPaths) (textFrom (length s + 1) (setupOf ids mask first .table) 0 s next)
 
 -- more than 65,536 bytes prints `end bad` alone
 unfoldable pub textOf : List ℕ → List ℕ
-textOf s = cond (ltb longest (length s)) (endOf Paper.malformed) (byHeading s (headingOf s))
+textOf s = cond (ltb longest (length s)) (endOf Codes.malformed) (byHeading s (headingOf s))

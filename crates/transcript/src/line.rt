@@ -2,7 +2,7 @@
 ghost use mathlib.Core.Path.{_≡_};
 ghost use Prim.Native.Nat.{_%_};
 ghost use mathlib.Core.List.{_++_};
-ghost use Rattle.wire.specs.Paper;
+ghost use Rattle.wire.specs.Codes;
 ghost use Rattle.transcript.specs.Lines.{emptyLine, pushed, pushAll, decimalOf, digitOf, hexOf, hexWord, senseText, replyText, answerText, lineOf, endOk, Handed};
 ghost use Rattle.transcript.specs.Text.{endOf};
 use plan::Answer;
@@ -158,13 +158,13 @@ pub(crate) fn ok_line(live: u32) -> Line
 }
 
 pub(crate) fn bad_line() -> Line
-    ensures { λ r. ⌜ r ≡ pushAll emptyLine (endOf Paper.malformed) ⌝ }
+    ensures { λ r. ⌜ r ≡ pushAll emptyLine (endOf Codes.malformed) ⌝ }
 {
     push_word(empty(), b"end bad\n")
 }
 
 pub(crate) fn refused_line() -> Line
-    ensures { λ r. ⌜ r ≡ pushAll emptyLine (endOf Paper.badPaths) ⌝ }
+    ensures { λ r. ⌜ r ≡ pushAll emptyLine (endOf Codes.badPaths) ⌝ }
 {
     push_word(empty(), b"end refused 11\n")
 }

@@ -12,7 +12,7 @@ use mir.Syntax.{w8}
 use mir.Val.{Fits}
 use borrow.Author.Count.{below-none, below-more}
 use borrow.Author.Tests.{le-ltb, eq-eqb, ne-eqb, eqb-true, eqb-false, not-false}
-use Rattle.wire.specs.Paper.{scsiCommand, confirmStatus}
+use Rattle.wire.specs.Codes.{scsiCommand, confirmStatus}
 use Rattle.wire.specs.Fields.{byte}
 use Rattle.wire.specs.Messages.{rows, placeOf, rowOf, commandReserved, confirmReserved, reservedSet}
 use Rattle.wire.proofs.Table.{every, at, cond-ind, neither}

@@ -9,7 +9,7 @@ use lib.Seq.{take-append-le, drop-append-le}
 use lib.Dec.{leb, eqb, lit<}
 use native.Mathlib.Omega.{arith}
 use borrow.Author.Tests.{leb-true, le-ltb, ltb-false, eqb-true, eqb-false}
-use Rattle.wire.specs.Paper.{tooShort, scsiCommand, confirmStatus}
+use Rattle.wire.specs.Codes.{tooShort, scsiCommand, confirmStatus}
 use Rattle.wire.specs.Fields.{byte, word, long}
 use Rattle.wire.specs.Messages.{lengths, rows, placeOf, rowOf, lengthOf, confirmOf, fieldsOf, readOf, commandReserved, confirmReserved, reservedSet}
 use Rattle.wire.specs.Block.{blockLengths, blockLength, opcode, cutShort, noBlock, linked, blockOf}

@@ -9,7 +9,7 @@ use lib.ListN.{getD}
 use lib.Dec.{eqb, ltb}
 use native.Mathlib.Omega.{arith}
 use borrow.Author.Tests.{eqb-true, ltb-true}
-use Rattle.wire.specs.Paper.{tooShort, notHandled}
+use Rattle.wire.specs.Codes.{tooShort, notHandled}
 use Rattle.wire.specs.Fields.{byte}
 use Rattle.wire.specs.Messages.{codes, rows, rowOf, fieldsOf}
 use Rattle.wire.specs.Promises.{s3pCode, ReadByCode, ReadRefusals}

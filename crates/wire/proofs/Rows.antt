@@ -11,7 +11,7 @@ use native.Mathlib.Nat.{add-zero}
 use native.Mathlib.Numerals.{add-one}
 use native.Mathlib.Omega.{arith}
 use borrow.Author.Tests.{lt-ltb, le-ltb, ltb-false, eq-eqb, ne-eqb, eqb-true, eqb-false, not-true, not-false}
-use Rattle.wire.specs.Paper.{tooShort, notHandled, smsCode}
+use Rattle.wire.specs.Codes.{tooShort, notHandled, smsCode}
 use Rattle.wire.specs.Fields.{byte, joined, word, long}
 use Rattle.wire.specs.Messages.{codes, rows, placeOf, rowOf, lengthOf, flagsOf, confirmOf, fieldsOf, readOf}
 use Rattle.wire.proofs.Table.{cond-ind}

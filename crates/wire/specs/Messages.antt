@@ -4,8 +4,8 @@ use mathlib.Core.List.{List, [], _∷_}
 use mathlib.Core.Bool.{Bool, false, cond, not, _||_}
 use lib.ListN.{length, getD}
 use lib.Dec.{ltb, eqb}
-use Rattle.wire.specs.Paper.{tooShort, notHandled, queue, smsCode}
-use Rattle.wire.specs.Paper.{scsiCommand, confirmStatus, abortTask, abortTaskSet, clearTaskSet, targetReset, clearAca, logicalUnitReset}
+use Rattle.wire.specs.Codes.{tooShort, notHandled, queue, smsCode}
+use Rattle.wire.specs.Codes.{scsiCommand, confirmStatus, abortTask, abortTaskSet, clearTaskSet, targetReset, clearAca, logicalUnitReset}
 use Rattle.wire.specs.Fields.{byte, word, long}
 use Rattle.wire.specs.declared.message.Flags.{Flags}
 use Rattle.wire.specs.declared.message.Message.{Message}

@@ -5,8 +5,8 @@ use mathlib.Core.Path.{_≡_}
 use mathlib.Core.Bool.{false}
 use mathlib.Core.Logic.{_⊎_}
 use mathlib.Core.List.{List, _++_}
-use Rattle.wire.specs.Paper.{tooShort, notHandled}
-use Rattle.wire.specs.Paper.{scsiCommand, confirmStatus, abortTask, abortTaskSet, clearTaskSet, targetReset, clearAca, logicalUnitReset}
+use Rattle.wire.specs.Codes.{tooShort, notHandled}
+use Rattle.wire.specs.Codes.{scsiCommand, confirmStatus, abortTask, abortTaskSet, clearTaskSet, targetReset, clearAca, logicalUnitReset}
 use Rattle.wire.specs.Fields.{byte}
 use Rattle.wire.specs.Messages.{readOf, reservedSet}
 use Rattle.wire.specs.Block.{opcode, cutShort, noBlock, linked, blockOf}

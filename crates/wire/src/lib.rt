@@ -1,4 +1,4 @@
-// The wire: the paper's numbers, and received bytes read as messages. It knows no table.
+// The wire: the numbers of page 01 and 003, and received bytes read as messages. It knows no table.
 pub mod block;
 pub mod codes;
 pub mod fields;

@@ -4,7 +4,7 @@ use mathlib.Core.Path.{_≡_, refl, sym, _∙_}
 use mathlib.Core.Bool.{false}
 use native.Mathlib.Omega.{arith}
 use borrow.Author.Needs.{needs}
-use Rattle.task.specs.Index.{some}
+use Rattle.task.specs.Index.{someBelow}
 use Rattle.task.proofs.Loops.{some-more, some-hit}
 use Rattle.table.specs.Sound.{clashes}
 use Rattle.table.proofs.Checking.{clashAt, clashBelow}
@@ -12,19 +12,19 @@ use Rattle.table.proofs.Table.clashes.Statement.{statement}
 use Rattle.table.proofs.Table.clashes.Tie as tie
 
 abbrev Inv-loop : tie.InvT-loop
-Inv-loop self found₀ i a j₀ found j = (j ≤ i) × (found ≡ false) × (some j (clashAt self i) ≡ false)
+Inv-loop self found₀ i a j₀ found j = (j ≤ i) × (found ≡ false) × (someBelow j (clashAt self i) ≡ false)
 
 abbrev μ-loop : tie.MeasureT-loop
 μ-loop self found₀ i a j₀ found j = i - j
 
 abbrev Inv-walk : tie.InvT-walk
-Inv-walk self found₀ i₀ found i = (i ≤ 64) × (found ≡ false) × (some i (clashBelow self) ≡ false)
+Inv-walk self found₀ i₀ found i = (i ≤ 64) × (found ≡ false) × (someBelow i (clashBelow self) ≡ false)
 
 abbrev μ-walk : tie.MeasureT-walk
 μ-walk self found₀ i₀ found i = 64 - i
 
 walk-holds : tie.Need-walk-holds Inv-loop μ-loop Inv-walk μ-walk
-unfolding some
+unfolding someBelow
 walk-holds c = (search needs, refl, refl)
 
 mul-a : tie.Need-mul-a Inv-loop μ-loop Inv-walk μ-walk
@@ -34,7 +34,7 @@ element-copy-out-a : tie.Need-element-copy-out-a Inv-loop μ-loop Inv-walk μ-wa
 element-copy-out-a c = omega arith
 
 loop-holds : tie.Need-loop-holds Inv-loop μ-loop Inv-walk μ-walk
-unfolding some
+unfolding someBelow
 loop-holds c = (search needs, c .before .before .walk .inv .1, refl)
 
 mul-b : tie.Need-mul-b Inv-loop μ-loop Inv-walk μ-walk

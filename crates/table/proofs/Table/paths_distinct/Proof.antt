@@ -4,7 +4,7 @@ use mathlib.Core.Path.{_≡_}
 use mathlib.Core.Bool.{true, false}
 use mathlib.Core.Logic.{⊎-elim}
 use borrow.Author.Needs.{needs}
-use Rattle.task.specs.Index.{all}
+use Rattle.task.specs.Index.{allBelow}
 use Rattle.task.proofs.Loops.{all-loop}
 use Rattle.table.specs.Sound.{pathsDistinct}
 use Rattle.task.proofs.Ways.{ways, answer-equal, answer-unequal}
@@ -13,7 +13,7 @@ use Rattle.table.proofs.Table.paths_distinct.Statement.{statement}
 use Rattle.table.proofs.Table.paths_distinct.Tie as tie
 
 abbrev Inv-loop : tie.InvT-loop
-Inv-loop self count paths p₀ p = (p ≤ 8) × (all p (firstWithId self) ≡ true)
+Inv-loop self count paths p₀ p = (p ≤ 8) × (allBelow p (firstWithId self) ≡ true)
 
 abbrev μ-loop : tie.MeasureT-loop
 μ-loop self count paths p₀ p = 8 - p

@@ -4,7 +4,7 @@ use mathlib.Core.Path.{_≡_}
 use mathlib.Core.Bool.{true}
 use native.Mathlib.Omega.{arith}
 use borrow.Author.Needs.{needs}
-use Rattle.task.specs.Index.{all}
+use Rattle.task.specs.Index.{allBelow}
 use Rattle.task.proofs.Loops.{all-loop, all-miss-not, all-more-not}
 use Rattle.table.specs.Sound.{recordsOk}
 use Rattle.table.proofs.Checking.{recordFine}
@@ -12,7 +12,7 @@ use Rattle.table.proofs.Table.records_ok.Statement.{statement}
 use Rattle.table.proofs.Table.records_ok.Tie as tie
 
 abbrev Inv-loop : tie.InvT-loop
-Inv-loop self units i₀ i = (i ≤ 64) × (all i (recordFine self) ≡ true)
+Inv-loop self units i₀ i = (i ≤ 64) × (allBelow i (recordFine self) ≡ true)
 
 abbrev μ-loop : tie.MeasureT-loop
 μ-loop self units i₀ i = 64 - i

@@ -3,7 +3,7 @@ use Prim.Native.Nat.{_≤_, _-_}
 use mathlib.Core.Path.{_≡_}
 use mathlib.Core.Bool.{true}
 use borrow.Author.Needs.{needs}
-use Rattle.task.specs.Index.{all}
+use Rattle.task.specs.Index.{allBelow}
 use Rattle.task.proofs.Loops.{all-loop}
 use Rattle.table.specs.Sound.{unitsOk}
 use Rattle.table.proofs.Checking.{unitFine}
@@ -11,7 +11,7 @@ use Rattle.table.proofs.Table.units_ok.Statement.{statement}
 use Rattle.table.proofs.Table.units_ok.Tie as tie
 
 abbrev Inv-loop : tie.InvT-loop
-Inv-loop self u₀ u = (u ≤ 8) × (all u (unitFine self) ≡ true)
+Inv-loop self u₀ u = (u ≤ 8) × (allBelow u (unitFine self) ≡ true)
 
 abbrev μ-loop : tie.MeasureT-loop
 μ-loop self u₀ u = 8 - u

@@ -4,7 +4,7 @@ use mathlib.Core.Logic.{⊎-elim}
 use mathlib.Core.Path.{_≡_}
 use mathlib.Core.Bool.{true, false}
 use borrow.Author.Needs.{needs}
-use Rattle.task.specs.Index.{all}
+use Rattle.task.specs.Index.{allBelow}
 use Rattle.task.proofs.Loops.{all-loop}
 use Rattle.table.specs.Sound.{unusedZero}
 use Rattle.task.proofs.Ways.{ways}
@@ -13,7 +13,7 @@ use Rattle.table.proofs.Table.unused_zero.Statement.{statement}
 use Rattle.table.proofs.Table.unused_zero.Tie as tie
 
 abbrev Inv-loop : tie.InvT-loop
-Inv-loop self count p₀ p = (p ≤ 8) × (all p (usedOrZero self) ≡ true)
+Inv-loop self count p₀ p = (p ≤ 8) × (allBelow p (usedOrZero self) ≡ true)
 
 abbrev μ-loop : tie.MeasureT-loop
 μ-loop self count p₀ p = 8 - p

@@ -5,14 +5,14 @@ use mathlib.Core.Bool.{false}
 use native.Mathlib.Omega.{arith}
 use lib.ListN.{getD}
 use borrow.Author.Needs.{needs}
-use Rattle.task.specs.Index.{some}
+use Rattle.task.specs.Index.{someBelow}
 use Rattle.task.proofs.Loops.{first-loop}
 use Rattle.table.specs.Tables.{noPath, hasId, placeOf}
 use Rattle.table.proofs.paths.place_of.Statement.{statement}
 use Rattle.table.proofs.paths.place_of.Tie as tie
 
 abbrev Inv-loop : tie.InvT-loop
-Inv-loop count id paths count' p₀ p = (p ≤ 8) × (some p (λ k. hasId count' id k (getD paths k noPath)) ≡ false)
+Inv-loop count id paths count' p₀ p = (p ≤ 8) × (someBelow p (λ k. hasId count' id k (getD paths k noPath)) ≡ false)
 
 abbrev μ-loop : tie.MeasureT-loop
 μ-loop count id paths count' p₀ p = 8 - p

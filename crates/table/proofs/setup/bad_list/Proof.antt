@@ -5,7 +5,7 @@ use mathlib.Core.Bool.{false}
 use native.Mathlib.Omega.{arith}
 use lib.ListN.{length}
 use borrow.Author.Needs.{needs}
-use Rattle.task.specs.Index.{some}
+use Rattle.task.specs.Index.{someBelow}
 use Rattle.task.proofs.Loops.{some-loop}
 use Rattle.table.specs.Setup.{seenBefore}
 use Rattle.table.proofs.Setting.{list-ways}
@@ -13,7 +13,7 @@ use Rattle.table.proofs.setup.bad_list.Statement.{statement}
 use Rattle.table.proofs.setup.bad_list.Tie as tie
 
 abbrev Inv-loop : tie.InvT-loop
-Inv-loop ids i₀ i = (i ≤ length ids) × (some i (seenBefore ids) ≡ false)
+Inv-loop ids i₀ i = (i ≤ length ids) × (someBelow i (seenBefore ids) ≡ false)
 
 abbrev μ-loop : tie.MeasureT-loop
 μ-loop ids i₀ i = length ids - i

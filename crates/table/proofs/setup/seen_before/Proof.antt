@@ -7,13 +7,13 @@ use lib.Dec.{eqb}
 use lib.ListN.{getD}
 use borrow.Author.Tests.{eq-eqb, ne-eqb}
 use borrow.Author.Needs.{needs}
-use Rattle.task.specs.Index.{some}
+use Rattle.task.specs.Index.{someBelow}
 use Rattle.task.proofs.Loops.{some-loop}
 use Rattle.table.proofs.setup.seen_before.Statement.{statement}
 use Rattle.table.proofs.setup.seen_before.Tie as tie
 
 abbrev Inv-loop : tie.InvT-loop
-Inv-loop ids i j₀ j = (j ≤ i) × (some j (λ k. eqb (getD ids i 0) (getD ids k 0)) ≡ false)
+Inv-loop ids i j₀ j = (j ≤ i) × (someBelow j (λ k. eqb (getD ids i 0) (getD ids k 0)) ≡ false)
 
 abbrev μ-loop : tie.MeasureT-loop
 μ-loop ids i j₀ j = i - j

@@ -1,4 +1,4 @@
--- The paper's numbers under their names: page 01's refusals, the codes of 003's tables 4, 6, 9, 10 and 21, and those of SCSI-3 that page 01 names.
+-- The numbers of page 01 and 003 under their names: page 01's refusals, the codes of 003's tables 4, 6, 9, 10 and 21, and those of SCSI-3 that page 01 names.
 -- They stand here for every crate above; places, lengths and masks stand with the layouts (Messages.antt, Block.antt).
 use Prim.Native.Nat.{ℕ}
 use Rattle.wire.specs.declared.codes.Refusal.{Refusal}
