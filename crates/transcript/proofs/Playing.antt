@@ -175,7 +175,7 @@ module _ (p : Player) (s buf : List ℕ) where
         → Advances p s buf (record { player = t .player; wrote = n }) left
     unfolding stepOf lineLeft
     line-written k f h = record {
-      step = rw (le-ltb _ _ l, ← e, not-false (t .played) k, ← f, h .length);
+      step = rw (le-ltb _ _ l, ← e, not-false (t .played) k, ← f, h .wrote);
       buffer = h .buffer ∙ rw (le-ltb _ _ l, ← e, not-false (t .played) k, ← f);
     }
 
