@@ -1,11 +1,6 @@
 -- The promises, the cases of the crate's functions, and the laws behind both.
-mod Choices
-mod Numbers
-mod Reading
 mod Lines
-mod Moving
-mod Groups
-mod Heading
+mod Uncut
 mod Printing
 mod Playing
 mod Whole

@@ -131,12 +131,12 @@ pub ruleset line-cases = (event-text, ok-text, one-word)
 module _ (l : Line) (buf : List ℕ) where
   pub small-buffer : length buf < 64 → Handed l buf 0 buf
   unfolding handedOf handedIn
-  small-buffer h = record { length = simp (lt-ltb _ _ h); buffer = simp (lt-ltb _ _ h) }
+  small-buffer h = record { wrote = simp (lt-ltb _ _ h); buffer = simp (lt-ltb _ _ h) }
 
   module _ (h : 64 ≤ length buf) where
     pub odd-line : 64 < l .len → Handed l buf 0 buf
     unfolding handedOf handedIn
-    odd-line o = record { length = simp (le-ltb _ _ h, lt-ltb _ _ o); buffer = simp (le-ltb _ _ h, lt-ltb _ _ o) }
+    odd-line o = record { wrote = simp (le-ltb _ _ h, lt-ltb _ _ o); buffer = simp (le-ltb _ _ h, lt-ltb _ _ o) }
 
     pub copied :
         {left : List ℕ} {n : ℕ} → l .len ≤ 64 → length (l .bytes) ≡ 64 → n ≡ length (take (l .len) (l .bytes))
@@ -146,7 +146,7 @@ module _ (l : Line) (buf : List ℕ) where
     copied o k p q =
         let f : length (take (l .len) (l .bytes)) ≡ l .len = length-take-le _ _ (omega arith) in
         record {
-          length = (p ∙ f) ∙ simp (le-ltb _ _ h, le-ltb _ _ o);
+          wrote = (p ∙ f) ∙ simp (le-ltb _ _ h, le-ltb _ _ o);
           buffer = q ∙ rw (take-length, f) (simp (le-ltb _ _ h, le-ltb _ _ o));
         }
 

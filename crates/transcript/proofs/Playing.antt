@@ -4,61 +4,34 @@ use Prim.Native.Nat.{ℕ, _+_, _-_, _^_, _≤_, _<_}
 use mathlib.Core.Path.{_≡_, _∙_}
 use mathlib.Core.Bool.{Bool, true, false, not}
 use mathlib.Core.List.{List, []}
-use lib.ListN.{length, take, drop, replicate}
-use lib.Dec.{ltb}
-use native.Mathlib.Omega.{arith}
-use borrow.Author.Tests.{ltb-true, eq-eqb, ne-eqb, lt-ltb, le-ltb, le-leb, lt-leb, not-true, not-false}
+use lib.ListN.{length, take, drop}
+use borrow.Author.Tests.{eq-eqb, ne-eqb, lt-ltb, le-ltb, le-leb, lt-leb, not-true, not-false}
 use Rattle.wire.specs.Codes
-use Rattle.wire.proofs.Table.{cond-ind}
 use Rattle.task.specs.Map.{liveCount}
 use Rattle.table.specs.Tables.{zeroTable}
 use Rattle.table.specs.declared.Table.{Table}
 use Rattle.engine.specs.Calls.{messageOf, startOf, finishOf, totalResetOf, Answers}
 use Rattle.engine.specs.declared.Outcome.{Outcome}
-use Rattle.transcript.specs.Numbers.{numberAt, byteAt, given}
-use Rattle.transcript.specs.Reading.{leastOfNine, idsFrom, afterIds, headerOf}
-use Rattle.transcript.specs.Events.{eventAt}
+use Rattle.input.specs.Reading.{headerOf}
+use Rattle.input.specs.Events.{eventAt}
+use Rattle.input.specs.declared.header.Header.{Header}
+use Rattle.input.specs.declared.event.Event.{Event}
+use Rattle.input.specs.declared.event.Event.the-variants.{Message, Start, Finish, TotalReset}
+use Rattle.input.specs.declared.event.Next.{Next}
+use Rattle.input.specs.declared.event.Next.the-variants.{Is, Bad}
+use Rattle.input.proofs.Promises.{nine-are-kept}
 use Rattle.transcript.specs.Lines.{emptyLine, pushAll, endOk, Handed}
 use Rattle.transcript.specs.Text.{longest, partOf, called, endOf}
 use Rattle.transcript.specs.Playing.{player, standing, standingAt, isPlaying, isRefused, setBy, byHeader, opened, idled, byNext, turned, turnLine, stepOf, lineLeft, Advances, lastText, lastLine}
-use Rattle.transcript.specs.declared.number.Number.{Number}
-use Rattle.transcript.specs.declared.number.Number.the-variants as number
-use Rattle.transcript.specs.declared.header.Header.{Header}
-use Rattle.transcript.specs.declared.event.Event.{Event}
-use Rattle.transcript.specs.declared.event.Event.the-variants.{Message, Start, Finish, TotalReset}
-use Rattle.transcript.specs.declared.event.Next.{Next}
-use Rattle.transcript.specs.declared.event.Next.the-variants.{Is, Bad}
 use Rattle.transcript.specs.declared.line.Line.{Line}
 use Rattle.transcript.specs.declared.play.State.the-variants as state
 use Rattle.transcript.specs.declared.play.Player.{Player}
 use Rattle.transcript.specs.declared.play.Turn.{Turn}
 
--- ---- the header keeps nine ids at most
-
-abbrev AtMostNine : Header → Type 0
-AtMostNine h = h .count ≤ 9
-
-given-each : (P : Header → Type 0) {h : Header} (r : Number) (f : ℕ → ℕ → Header) → P h → ((v next : ℕ) → P (f v next)) → P (given h r f)
-unfolding given
-given-each P number.Bad f h k = h
-given-each P (number.Value v next) f h k = k v next
-
-least : (n : ℕ) → leastOfNine n ≤ 9
-least n = cond-ind (λ (m : ℕ). m ≤ 9) (ltb n 9) (λ t. omega (arith, ltb-true n 9 t)) (λ t. omega arith)
-
-pub at-most-nine : (s : List ℕ) → headerOf s .count ≤ 9
-unfolding headerOf afterIds
-at-most-nine s =
-    given-each AtMostNine (byteAt s 0) _ (omega arith) (λ count a.
-    cond-ind AtMostNine (idsFrom count s a (replicate 9 0) 0 .ok)
-    (λ t. given-each AtMostNine (byteAt s (idsFrom count s a (replicate 9 0) 0 .next)) _ (omega arith) (λ mask b.
-    given-each AtMostNine (numberAt s b) _ (omega arith) (λ first next. least count)))
-    (λ t. omega arith))
+-- ---- open
 
 pub few-ids : (s : List ℕ) {h : Header} → h ≡ headerOf s → h .count ≤ 9
-few-ids s e = rw e (at-most-nine s)
-
--- ---- open
+few-ids s e = rw e (nine-are-kept s)
 
 module _ (s : List ℕ) {p : Player} where
   pub too-long : {t : Table} → longest < length s → t ≡ zeroTable → p ≡ standing t state.Bad → p ≡ opened s
@@ -175,7 +148,7 @@ module _ (p : Player) (s buf : List ℕ) where
         → Advances p s buf (record { player = t .player; wrote = n }) left
     unfolding stepOf lineLeft
     line-written k f h = record {
-      step = rw (le-ltb _ _ l, ← e, not-false (t .played) k, ← f, h .length);
+      step = rw (le-ltb _ _ l, ← e, not-false (t .played) k, ← f, h .wrote);
       buffer = h .buffer ∙ rw (le-ltb _ _ l, ← e, not-false (t .played) k, ← f);
     }
 

@@ -13,20 +13,20 @@ use Rattle.wire.proofs.Table.{cond-ind}
 use Rattle.table.specs.Setup.{badList}
 use Rattle.table.specs.declared.Table.{Table}
 use Rattle.engine.specs.Calls.{setupOf}
-use Rattle.transcript.specs.Events.{eventAt}
-use Rattle.transcript.specs.Header.{Heading, malformed, heading, headingOf}
-use Rattle.transcript.specs.Reading.{headerOf}
+use Rattle.input.specs.Events.{eventAt}
+use Rattle.input.specs.Header.{Heading, malformed, heading, headingOf}
+use Rattle.input.specs.Reading.{headerOf}
+use Rattle.input.specs.Promises.{Says}
+use Rattle.input.specs.declared.header.Header.{Header}
+use Rattle.input.specs.declared.event.Next.{Next}
+use Rattle.input.specs.declared.event.Next.the-variants.{Is, Bad}
+use Rattle.input.proofs.Promises.{header-is-read}
 use Rattle.transcript.specs.Lines.{lineOf}
 use Rattle.transcript.specs.Text.{longest, called, byEvent, textFrom, byHeading, textOf}
 use Rattle.transcript.specs.Playing.{player, standing, isPlaying, idled, setBy, byHeader, opened, byNext, turned, turnText, lastText, printedFrom, printed}
-use Rattle.transcript.specs.Promises.{Says}
-use Rattle.transcript.specs.declared.header.Header.{Header}
-use Rattle.transcript.specs.declared.event.Next.{Next}
-use Rattle.transcript.specs.declared.event.Next.the-variants.{Is, Bad}
 use Rattle.transcript.specs.declared.play.State.the-variants as state
 use Rattle.transcript.specs.declared.play.Player.{Player}
 use Rattle.transcript.specs.declared.play.Turn.{Turn}
-use Rattle.transcript.proofs.Heading.{header-read}
 
 -- what is printed from a turn on
 abbrev printedBy : ℕ → List ℕ → Turn → List ℕ
@@ -87,4 +87,4 @@ prints s = rw (add-one (length s)) (by-length (ltb longest (length s)) refl)
   where
     by-length : (b : Bool) → ltb longest (length s) ≡ b → printedFrom (suc (length s)) (opened s) s ≡ textOf s
     by-length true t = rw t (stopped (length s) _ s refl)
-    by-length false t = rw t (by-header s (headingOf s) (headerOf s) (ltb-false _ _ t) (header-read s))
+    by-length false t = rw t (by-header s (headingOf s) (headerOf s) (ltb-false _ _ t) (header-is-read s))

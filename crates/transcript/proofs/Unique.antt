@@ -6,5 +6,5 @@ pub answers-are-one : AnswersAreOne
 answers-are-one = record {
   «open» = λ _ _ _. determined;
   advance = λ _ _ _ _ _ _ _ h g. (determined (h .step) (g .step), determined (h .buffer) (g .buffer));
-  close = λ _ _ _ _ _ _ h g. (determined (h .length) (g .length), determined (h .buffer) (g .buffer));
+  close = λ _ _ _ _ _ _ h g. (determined (h .wrote) (g .wrote), determined (h .buffer) (g .buffer));
 }

@@ -116,4 +116,4 @@ module _ (buf : List ℕ) (room : 64 ≤ length buf) where
       rw (a .step, a .buffer, le-ltb _ _ room) (refl, played-left (turned p s .played) _ (line-short (turned p s .player .number) (turned p s .answer)))
 
   pub close-leaves : (p : Player) (wrote : ℕ) (left : List ℕ) → Handed (lastLine p) buf wrote left → Leaves (lastText p) wrote left
-  close-leaves p wrote left h = rw (h .length, h .buffer) (text-left (lastText p) (last-short p))
+  close-leaves p wrote left h = rw (h .wrote, h .buffer) (text-left (lastText p) (last-short p))

@@ -148,5 +148,5 @@ unfoldable pub handedIn : Line → List ℕ → List ℕ
 handedIn l buf = cond (ltb (length buf) 64 || ltb 64 (l .len)) buf (take (l .len) (l .bytes) ++ drop (l .len) buf)
 
 pub record Handed (l : Line) (buf : List ℕ) (n : ℕ) (left : List ℕ) : Type 0 where
-  pub length : n ≡ handedOf l buf
+  pub wrote : n ≡ handedOf l buf
   pub buffer : left ≡ handedIn l buf

@@ -13,14 +13,14 @@ use Rattle.plan.specs.declared.Answer.{Answer}
 use Rattle.plan.specs.declared.Answer.the-variants as answer
 use Rattle.engine.specs.Calls.{setupOf}
 use Rattle.engine.specs.declared.Outcome.{Outcome}
-use Rattle.transcript.specs.Reading.{headerOf}
-use Rattle.transcript.specs.Events.{eventAt}
+use Rattle.input.specs.Reading.{headerOf}
+use Rattle.input.specs.Events.{eventAt}
+use Rattle.input.specs.declared.header.Header.{Header}
+use Rattle.input.specs.declared.event.Next.{Next}
+use Rattle.input.specs.declared.event.Next.the-variants.{Is, Bad}
 use Rattle.transcript.specs.Lines.{emptyLine, pushAll, lineOf, endOk, handedOf, handedIn}
 use Rattle.transcript.specs.Text.{longest, called, endOf}
-use Rattle.transcript.specs.declared.header.Header.{Header}
 use Rattle.transcript.specs.declared.line.Line.{Line}
-use Rattle.transcript.specs.declared.event.Next.{Next}
-use Rattle.transcript.specs.declared.event.Next.the-variants.{Is, Bad}
 use Rattle.transcript.specs.declared.play.State.{State}
 use Rattle.transcript.specs.declared.play.State.the-variants as state
 use Rattle.transcript.specs.declared.play.Player.{Player}

@@ -1,61 +1,19 @@
 -- What is promised of the transcript beside the contracts. Each is proved in proofs/Promises.antt.
-use Prim.Native.Nat.{ℕ, suc, _+_, _-_, _^_, _≤_, _<_}
+use Prim.Native.Nat.{ℕ, suc, _+_, _≤_}
 use mathlib.Core.Path.{_≡_}
-use mathlib.Core.Bool.{true, false}
-use mathlib.Core.List.{List, _++_}
-use lib.ListN.{length, getD, take, drop}
-use Rattle.table.specs.Setup.{badList}
+use mathlib.Core.List.{List}
+use lib.ListN.{length, take}
 use Rattle.table.specs.declared.Table.{Table}
 use Rattle.plan.specs.declared.Answer.{Answer}
-use Rattle.transcript.specs.Numbers.{numberAt, groupsOf}
-use Rattle.transcript.specs.Header.{Heading, malformed, heading, headingOf}
-use Rattle.transcript.specs.Events.{eventAt}
-use Rattle.transcript.specs.Reading.{headerOf}
 use Rattle.transcript.specs.Lines.{emptyLine, pushAll, lineOf, Handed}
 use Rattle.transcript.specs.Text.{textFrom, textOf}
 use Rattle.transcript.specs.Playing.{turned, turnText, Advances, lastText, lastLine, printed}
-use Rattle.transcript.specs.declared.number.Number.the-variants.{Value}
-use Rattle.transcript.specs.declared.header.Header.{Header}
-use Rattle.transcript.specs.declared.event.Event.{Event}
-use Rattle.transcript.specs.declared.event.Next.the-variants.{Is}
 use Rattle.transcript.specs.declared.play.Player.{Player}
 use Rattle.transcript.specs.declared.play.Step.{Step}
 
--- ---- numbers
-
--- a number below 2^64 that is written in groups, anywhere in an input, is read back
-abbrev pub NumbersReadBack : Type 0
-NumbersReadBack =
-    (before rest : List ℕ) (n : ℕ) → n < 2 ^ 64
-    → numberAt (before ++ (groupsOf n ++ rest)) (length before) ≡ Value n (length before + length (groupsOf n))
-
--- no two encodings of one number are taken: the bytes of a number that is read are its groups
-abbrev pub OneFormIsTaken : Type 0
-OneFormIsTaken =
-    (s : List ℕ) → ((i : ℕ) → getD s i 0 < 256) → (at n next : ℕ) → numberAt s at ≡ Value n next
-    → take (next - at) (drop at s) ≡ groupsOf n
-
--- ---- the header
-
--- the same list for setup: the same ids, or a list that is refused as the other is
-abbrev pub Alike : List ℕ → List ℕ → Type 0
-Alike kept ids = (badList kept ≡ badList ids) × (badList ids ≡ false → kept ≡ ids)
-
--- the header as the code keeps it says what the heading says
-abbrev pub Says : Heading → Header → Type 0
-Says malformed h = h .ok ≡ false
-Says (heading ids mask first next) h =
-    (h .ok ≡ true) × (h .mask ≡ mask) × (h .first ≡ first) × (h .next ≡ next) × Alike (take (h .count) (h .ids)) ids
-
-abbrev pub HeaderIsRead : Type 0
-HeaderIsRead = (s : List ℕ) → Says (headingOf s) (headerOf s)
-
 -- ---- the text
 
--- an event takes a byte at least, so the count of events that may follow never runs out: one more changes nothing
-abbrev pub EventsMoveOn : Type 0
-EventsMoveOn = (s : List ℕ) (at : ℕ) (e : Event) (next : ℕ) → eventAt s at ≡ Is e next → at < next
-
+-- the count of events that may follow never runs out: one more changes nothing
 abbrev pub NothingIsCut : Type 0
 NothingIsCut =
     (left : ℕ) (t : Table) (n : ℕ) (s : List ℕ) (at : ℕ) → length s ≤ at + left

@@ -11,13 +11,13 @@ use Rattle.table.specs.Setup.{badList}
 use Rattle.table.specs.declared.Table.{Table}
 use Rattle.engine.specs.Calls.{setupOf, messageOf, startOf, finishOf, totalResetOf}
 use Rattle.engine.specs.declared.Outcome.{Outcome}
-use Rattle.transcript.specs.Header.{Heading, malformed, heading, headingOf}
-use Rattle.transcript.specs.Events.{eventAt}
+use Rattle.input.specs.Header.{Heading, malformed, heading, headingOf}
+use Rattle.input.specs.Events.{eventAt}
+use Rattle.input.specs.declared.event.Event.{Event}
+use Rattle.input.specs.declared.event.Event.the-variants.{Message, Start, Finish, TotalReset}
+use Rattle.input.specs.declared.event.Next.{Next}
+use Rattle.input.specs.declared.event.Next.the-variants.{Is, Bad}
 use Rattle.transcript.specs.Lines.{lineOf, endOk, endBad, endRefused}
-use Rattle.transcript.specs.declared.event.Event.{Event}
-use Rattle.transcript.specs.declared.event.Event.the-variants.{Message, Start, Finish, TotalReset}
-use Rattle.transcript.specs.declared.event.Next.{Next}
-use Rattle.transcript.specs.declared.event.Next.the-variants.{Is, Bad}
 
 -- the longest input
 abbrev pub longest : ℕ

@@ -1,6 +1,3 @@
 // A recorded sequence of calls, played event by event: one event in, one line out into a lent line buffer.
-pub mod event;
-pub mod header;
 pub mod line;
-pub mod number;
 pub mod play;

@@ -3,11 +3,11 @@ ghost use mathlib.Core.Path.{_≡_};
 ghost use Rattle.transcript.specs.Text.{partOf, called};
 ghost use Rattle.transcript.specs.Lines.{Handed};
 ghost use Rattle.transcript.specs.Playing.{standing, standingAt, isPlaying, isRefused, opened, idled, turned, Advances, lastLine};
-use crate::event::Event;
-use crate::event::Next;
 use crate::line::LINE_ROOM;
 use crate::line::Line;
 use engine::Outcome;
+use input::event::Event;
+use input::event::Next;
 use plan::Answer;
 use table::Table;
 
@@ -54,7 +54,7 @@ pub fn open(s: &[u8]) -> Player
     if s.len() > LONGEST {
         return stopped(Table::zero(), State::Bad);
     }
-    let h = crate::header::read_header(s);
+    let h = input::header::read_header(s);
     if !h.ok {
         return stopped(Table::zero(), State::Bad);
     }
@@ -162,7 +162,7 @@ fn take_turn(p: Player, s: &[u8]) -> Turn
     if p.number == 0xffff_ffff_ffff_ffff {
         return idle(p, State::Bad);
     }
-    match crate::event::event_at(s, at) {
+    match input::event::event_at(s, at) {
         Next::Bad => idle(p, State::Bad),
         Next::Is(e, next) => {
             let t = p.table;

@@ -1,13 +1,13 @@
 -- `transcript::line::push` meets its contract. Assumes nothing.
 use Rattle.transcript.specs.Lines.{pushed}
-use Rattle.transcript.proofs.Choices.{choices}
+use Rattle.task.proofs.Ways.{ways}
 use borrow.Author.Needs.{needs}
 use Rattle.transcript.proofs.line.push.Statement.{statement}
 use Rattle.transcript.proofs.line.push.Tie as tie
 
 returns : tie.Need-returns
 unfolding pushed
-returns c = search choices
+returns c = search ways
 
 element-write-l : tie.Need-element-write-l
 element-write-l c = search needs
@@ -17,7 +17,7 @@ add-l c = search needs
 
 returns-2 : tie.Need-returns-2
 unfolding pushed
-returns-2 c = search choices
+returns-2 c = search ways
 
 pub push-spec : {M : Type 1} → statement M
 push-spec = tie.close (tie.spec returns element-write-l add-l returns-2)
