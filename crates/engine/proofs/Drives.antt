@@ -10,8 +10,8 @@ use Rattle.plan.specs.declared.Answer.{Answer}
 use Rattle.reply.specs.declared.Reply.the-variants.{Response, Status}
 use Rattle.plan.specs.declared.Answer.the-variants.{Ready, Accepted, Reply, Refused}
 use Rattle.engine.specs.Calls.{messageOf}
-use Rattle.engine.specs.Examples.{quiet, full, plain, resumed, again, examples, buffer, given, said}
-use Rattle.engine.specs.Drives.{Drive, MeetsAt, WrongDrives}
+use Rattle.engine.specs.Examples.{quiet, full, plain, resumed, again, examples, buffer, got, said}
+use Rattle.engine.specs.Drives.{MessageDrive, MeetsAt, WrongDrives}
 use Rattle.engine.specs.declared.Outcome.{Outcome}
 use Rattle.engine.proofs.Examples.{examples-hold}
 
@@ -20,7 +20,7 @@ abbrev to : Table → List ℕ → Answer
 to t m = messageOf t m 64 .answer
 
 -- the answers of the examples by their place in the table
-row : (k : ℕ) → getD (map given examples) k (Ready, []) .0 ≡ getD (map said examples) k (Ready, []) .0
+row : (k : ℕ) → getD (map got examples) k (Ready, []) .0 ≡ getD (map said examples) k (Ready, []) .0
 row k = ap (λ (l : List (Answer × List ℕ)). getD l k (Ready, []) .0) examples-hold
 
 example-c : to quiet plain ≡ Accepted 1
@@ -40,7 +40,7 @@ unfolding examples
 example-f-again = row 8
 
 -- what a drive answers where it meets demand 2
-answers : (d : Drive) (t : Table) (m : List ℕ) → MeetsAt d t m → d .outcome t m buffer .answer ≡ to t m
+answers : (d : MessageDrive) (t : Table) (m : List ℕ) → MeetsAt d t m → d .outcome t m buffer .answer ≡ to t m
 answers d t m meets = ap (λ (o : Outcome). o .answer) (meets .outcome)
 
 pub wrong-drives : WrongDrives

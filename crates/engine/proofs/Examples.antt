@@ -1,6 +1,6 @@
 -- Page 01's examples, its worked calls, confirmed status and what each order ends, computed. Assumes nothing.
 use mathlib.Core.Path.{refl}
-use Rattle.wire.specs.Messages.{placeOf, fieldsOf, readOf, commandReserved, confirmReserved, reservedSet}
+use Rattle.wire.specs.Messages.{rowIn, fieldsOf, readOf, commandReserved, confirmReserved, reservedSet}
 use Rattle.wire.specs.Block.{cutShort, noBlock, linked}
 use Rattle.reply.specs.Replies.{writableOf, bytesOf}
 use Rattle.reply.specs.Calls.{leftOf}
@@ -21,7 +21,7 @@ use Rattle.engine.specs.Examples.{quiet, tasksFrom, full, examples, wait
 
 -- the definitions that these are computed by: of messages and replies, of tasks and tables, of rules, orders and plans, of the calls and the examples
 unfoldable bytes : Unit {0}
-unfolding placeOf fieldsOf readOf commandReserved confirmReserved reservedSet cutShort noBlock linked writableOf bytesOf leftOf
+unfolding rowIn fieldsOf readOf commandReserved confirmReserved reservedSet cutShort noBlock linked writableOf bytesOf leftOf
 bytes = tt
 
 unfoldable tables : Unit {0}

@@ -121,19 +121,19 @@ accepts-only next p tag lun arrival flags (Report status sense sender) e = unlik
 accepts-only next p tag lun arrival flags (Invalid sender) e = unlike refl e
 accepts-only next p tag lun arrival flags Accept e = refl
 
-abbrev Whole : List ℕ → Type 0
-Whole m = (cutShort m ≡ false) × (noBlock m ≡ false)
+abbrev WholeBlock : List ℕ → Type 0
+WholeBlock m = (cutShort m ≡ false) × (noBlock m ≡ false)
 
-message-whole : (t : Table) (m : List ℕ) (n arrival : ℕ) → messageOf t m n .answer ≡ answer.Accepted arrival → Whole m
+message-whole : (t : Table) (m : List ℕ) (n arrival : ℕ) → messageOf t m n .answer ≡ answer.Accepted arrival → WholeBlock m
 unfolding planAt lookupOf
 message-whole t m n arrival =
-    each-message (λ (o : Outcome). o .answer ≡ answer.Accepted arrival → Whole m) t (λ _. unlike refl) m (λ path tag w _ _. asked (pathOf t path) tag w) n
+    each-message (λ (o : Outcome). o .answer ≡ answer.Accepted arrival → WholeBlock m) t (λ _. unlike refl) m (λ path tag w _ _. asked (pathOf t path) tag w) n
   where
-    asked : (p tag : ℕ) (w : Request) → planAt t m p tag w .answer ≡ answer.Accepted arrival → Whole m
+    asked : (p tag : ℕ) (w : Request) → planAt t m p tag w .answer ≡ answer.Accepted arrival → WholeBlock m
     asked p tag (Command lun flags) e = accept-is-whole t p tag lun flags m (accepts-only (t .next) p tag lun arrival flags _ e)
     asked p tag (Manage o) e = unlike refl (sym (order-answer _ _ p tag m o) ∙ e)
     asked p tag (Confirm offset complete) e =
-        each-confirm (λ (pl : Plan). pl .answer ≡ answer.Accepted arrival → Whole m) (pickOf t (named p tag)) p tag m offset complete (unlike refl) (unlike refl)
+        each-confirm (λ (pl : Plan). pl .answer ≡ answer.Accepted arrival → WholeBlock m) (pickOf t (named p tag)) p tag m offset complete (unlike refl) (unlike refl)
         (λ _ _. unlike refl) (λ _ _ _. unlike refl) e
 
 long-enough : (m : List ℕ) → cutShort m ≡ false → 16 + blockLength m ≤ length m

@@ -75,8 +75,8 @@ pub record Example : Type 0 where
 abbrev pub silent : Table → List ℕ → Answer → Example
 silent t m a = record { table = t; message = m; answer = a; reply = [] }
 
-abbrev pub refused : Table → List ℕ → ℕ → Example
-refused t m n = silent t m (Refused (Codes.refusal n))
+abbrev pub refuses : Table → List ℕ → ℕ → Example
+refuses t m n = silent t m (Refused (Codes.refusal n))
 
 abbrev pub accept : Table → List ℕ → ℕ → Example
 accept t m arrival = silent t m (Accepted arrival)
@@ -112,22 +112,22 @@ again = messageOf full plain 64 .table
 
 unfoldable pub examples : List Example
 examples =
-    refused quiet [] 1  -- a
-    ∷ refused quiet (0x83 ∷ []) 1
-    ∷ refused quiet (0x84 ∷ 0x10 ∷ []) 2  -- b
-    ∷ refused quiet (command 1 0 3 0 (replicate 5 0)) 1  -- c
+    refuses quiet [] 1  -- a
+    ∷ refuses quiet (0x83 ∷ []) 1
+    ∷ refuses quiet (0x84 ∷ 0x10 ∷ []) 2  -- b
+    ∷ refuses quiet (command 1 0 3 0 (replicate 5 0)) 1  -- c
     ∷ accept quiet plain 1
-    ∷ refused quiet (command 9 0 3 0 zeros) 3  -- d
+    ∷ refuses quiet (command 9 0 3 0 zeros) 3  -- d
     ∷ response quiet resumed 0xff  -- e
     ∷ status full plain 0x28  -- f
-    ∷ refused again plain 4
+    ∷ refuses again plain 4
     ∷ response quiet (command 1 0 3 1 zeros) 0xff  -- g
     ∷ check quiet (command 1 7 3 0 zeros) 0x05 0x25  -- h
     ∷ check quiet (command 1 0 3 0 (0x60 ∷ [])) 0x05 0x20  -- i
     ∷ response (accepted quiet 0 5 0 Simple false) plain 0x04  -- j
     ∷ accept (accepted quiet 1 5 0 Simple false) plain 2
     ∷ check quiet (command 1 0 0 0 zeros) 0x05 0x49  -- k
-    ∷ refused quiet (unitReset []) 1  -- l
+    ∷ refuses quiet (unitReset []) 1  -- l
     ∷ response quiet (unitReset (0 ∷ [])) 0x00
     ∷ response quiet (unitReset (7 ∷ [])) 0xff
     ∷ []
@@ -137,14 +137,14 @@ abbrev pub buffer : List ℕ
 buffer = replicate 64 0xaa
 
 -- the answer to an example's message and the buffer as it is left; and as page 01 says them
-abbrev pub given : Example → Answer × List ℕ
-given e = (messageOf (e .table) (e .message) 64 .answer, replied (messageOf (e .table) (e .message) 64 .answer) buffer)
+abbrev pub got : Example → Answer × List ℕ
+got e = (messageOf (e .table) (e .message) 64 .answer, replied (messageOf (e .table) (e .message) 64 .answer) buffer)
 
 abbrev pub said : Example → Answer × List ℕ
 said e = (e .answer, placed (e .reply) buffer)
 
 abbrev pub ExamplesHold : Type 0
-ExamplesHold = map given examples ≡ map said examples
+ExamplesHold = map got examples ≡ map said examples
 
 -- page 01's worked calls: setup, two commands, a start, a finish, a late finish; what the five events answer
 abbrev pub test : ℕ → List ℕ
@@ -201,14 +201,14 @@ confirmations =
     invalid quiet contradicting
     ∷ accept quiet confirming 1
     ∷ response unconfirmed confirming 0x04  -- a task that waits to be confirmed is live
-    ∷ refused unconfirmed (confirm 1 1 0 []) 1  -- 16 bytes
-    ∷ refused unconfirmed (confirm 9 1 0 (0x80 ∷ [])) 3
+    ∷ refuses unconfirmed (confirm 1 1 0 []) 1  -- 16 bytes
+    ∷ refuses unconfirmed (confirm 9 1 0 (0x80 ∷ [])) 3
     ∷ response unconfirmed (confirm 1 1 0 (0x81 ∷ [])) 0xff  -- a reserved bit
     ∷ response quiet (confirm 1 1 0 (0x40 ∷ [])) 0xff  -- before 15
-    ∷ refused quiet (confirm 1 1 0 (0x80 ∷ [])) 15
-    ∷ refused waits (confirm 1 1 0 (0x80 ∷ [])) 15  -- it waits to start
-    ∷ refused underway (confirm 1 1 0 (0x80 ∷ [])) 15  -- it runs
-    ∷ refused unconfirmed (confirm 2 2 0 (0x80 ∷ [])) 15  -- the tag of another path
+    ∷ refuses quiet (confirm 1 1 0 (0x80 ∷ [])) 15
+    ∷ refuses waits (confirm 1 1 0 (0x80 ∷ [])) 15  -- it waits to start
+    ∷ refuses underway (confirm 1 1 0 (0x80 ∷ [])) 15  -- it runs
+    ∷ refuses unconfirmed (confirm 2 2 0 (0x80 ∷ [])) 15  -- the tag of another path
     ∷ silent unconfirmed (confirm 1 1 0xff (0x80 ∷ [])) (Confirmed 1)
     ∷ silent unconfirmed (confirm 1 2 0 (0x80 ∷ [])) (Confirmed 1)  -- NEW RETURN PATH ID is not looked at
     ∷ silent unconfirmed (confirm 1 1 16 (0 ∷ [])) (Restarted 1)
@@ -216,7 +216,7 @@ confirmations =
     ∷ []
 
 abbrev pub ConfirmationsHold : Type 0
-ConfirmationsHold = map given confirmations ≡ map said confirmations
+ConfirmationsHold = map got confirmations ≡ map said confirmations
 
 -- the device's side: the unit is free and path 2's task goes; the finished one runs no more; restarted, it goes first, and the offset is handed back
 abbrev pub ConfirmedCalls : Type 0

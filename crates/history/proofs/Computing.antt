@@ -1,5 +1,5 @@
 -- The definitions that a trace computes with, for the proofs by computation. Assumes nothing.
-use Rattle.wire.specs.Messages.{placeOf, fieldsOf, readOf, commandReserved, confirmReserved, reservedSet}
+use Rattle.wire.specs.Messages.{rowIn, fieldsOf, readOf, commandReserved, confirmReserved, reservedSet}
 use Rattle.wire.specs.Block.{cutShort, noBlock, linked}
 use Rattle.task.specs.Index.{first, someBelow, allBelow, sum, mapOf, mapAt}
 use Rattle.task.specs.Map.{lowestFree, liveCount, withBit}
@@ -22,5 +22,5 @@ use Rattle.history.specs.Drives.{engine, callsOf}
 
 -- to unfold this name is to unfold all that stand here
 unfoldable pub computing : Unit {0}
-unfolding placeOf fieldsOf readOf commandReserved confirmReserved reservedSet cutShort noBlock linked first someBelow allBelow sum mapOf mapAt lowestFree liveCount withBit picks considered scanFrom zeroTable pathPlace anyLive pickOf hasRoom accepted endedBy alteredAt markedIn attentionGoneIn resetAttentionIn finished resetOf badList freshPaths pathsOf freshTable setupTable countOk pathsDistinct unusedZero recordsOk unitsOk clashes soundOf at weight firstThat factsOf lookupOf resumesUnmarked missesResume contradicts keptOutByAca acaKindWithoutAca passesAttention resetToReport clearedToReport roomRules fieldRules unitRules blockRules commandRules orderCode orderPlan confirmPlan heardOf planAt planFor withRecords carriedOut answeredTo messageOf choiceOn startVerdict startOf finishVerdict finishOf totalResetOf setupOf nth fateOf placeIn afterEffect noted ledgerFrom total lastTable engine callsOf
+unfolding rowIn fieldsOf readOf commandReserved confirmReserved reservedSet cutShort noBlock linked first someBelow allBelow sum mapOf mapAt lowestFree liveCount withBit picks considered scanFrom zeroTable pathPlace anyLive pickOf hasRoom accepted endedBy alteredAt markedIn attentionGoneIn resetAttentionIn finished resetOf badList freshPaths pathsOf freshTable setupTable countOk pathsDistinct unusedZero recordsOk unitsOk clashes soundOf at weight firstThat factsOf lookupOf resumesUnmarked missesResume contradicts keptOutByAca acaKindWithoutAca passesAttention resetToReport clearedToReport roomRules fieldRules unitRules blockRules commandRules orderCode orderPlan confirmPlan heardOf planAt planFor withRecords carriedOut answeredTo messageOf choiceOn startVerdict startOf finishVerdict finishOf totalResetOf setupOf nth fateOf placeIn afterEffect noted ledgerFrom total lastTable engine callsOf
 computing = tt

@@ -37,7 +37,7 @@ use Rattle.plan.specs.declared.Asked.{Asked}
 use Rattle.plan.specs.declared.Asked.the-variants.{By, Unread}
 use Rattle.plan.specs.declared.Answer.{Answer}
 use Rattle.plan.specs.declared.Answer.the-variants as answer
-use Rattle.history.specs.Trace.{Event, Message, Start, Finish, TotalReset, Told, nth, eventAt, Label, byStatus, byOrder, Effect, Nothing, Accepts, Restarts, Ends, Fate, stays, becomes, ended, fateOf, placeIn, commandEffect, orderReplied, orderEffect, confirmEffect, messageEffect, startEffect, finishReplied, resetEffect, effectOf, effectTold}
+use Rattle.history.specs.Trace.{Event, Message, Start, Finish, TotalReset, Told, nth, eventNumbered, Label, byStatus, byOrder, Effect, Nothing, Accepts, Restarts, Ends, Fate, stays, becomes, ended, fateOf, placeIn, commandEffect, orderReplied, orderEffect, confirmEffect, messageEffect, startEffect, finishReplied, resetEffect, effectOf, effectTold}
 use Rattle.history.specs.Ledger.{Ending, Entry, isEmpty, newEntry, afterEffect, newEntries, noted, ledgerFrom, ledger, Has}
 use Rattle.history.specs.Demand.{EntryAt, waiting, Came, Caused, reachesOthers, mayReachOthers, EndsItsOwn}
 use Rattle.history.proofs.Nth.{Each, same-element, nth-below, nth-append, nth-last, nth-map, each-none, each-one, each-append, each-map}
@@ -122,10 +122,10 @@ effect-same n f e = effect-ways (SameCommand e) n f e (refl, refl) (λ _ _ _ _. 
 
 module _ (ids : List ℕ) (h : List Told) where
   abbrev pub KeptByEvents : (ℕ → List Entry → Type 0) → Type 0
-  KeptByEvents P = (n : ℕ) (x : Told) (l : List Entry) → eventAt h n ≡ some x → P n l → P (suc n) (noted n (effectTold ids x) l)
+  KeptByEvents P = (n : ℕ) (x : Told) (l : List Entry) → eventNumbered h n ≡ some x → P n l → P (suc n) (noted n (effectTold ids x) l)
 
   -- rest is what the trace has from event n on
-  along : (P : ℕ → List Entry → Type 0) → KeptByEvents P → (rest : List Told) (n : ℕ) (l : List Entry) → ((k : ℕ) → eventAt h (n + k) ≡ nth rest k)
+  along : (P : ℕ → List Entry → Type 0) → KeptByEvents P → (rest : List Told) (n : ℕ) (l : List Entry) → ((k : ℕ) → eventNumbered h (n + k) ≡ nth rest k)
       → P n l → P (n + length rest) (ledgerFrom ids n l rest)
   unfolding nth ledgerFrom
   along P kept [] n l there p = rw add-zero p
@@ -135,7 +135,7 @@ module _ (ids : List ℕ) (h : List Told) where
       (kept n x l (rw add-zero at (there zero)) p))
 
   pub by-events : (P : ℕ → List Entry → Type 0) → KeptByEvents P → P 1 [] → P (1 + length h) (ledger ids h)
-  unfolding eventAt
+  unfolding eventNumbered
   by-events P kept p = along P kept h 1 [] (λ k. rw (suc-add zero k, zero-add)) p
 
   -- ---- each entry and each ending has its event
@@ -152,7 +152,7 @@ module _ (ids : List ℕ) (h : List Told) where
   known-change : {n : ℕ} {e d : Entry} → SameCommand e d → EachCaused d → Known n e → Known (suc n) d
   known-change same caused w = record {
     before = omega arith;
-    came = record { cause = w .came .cause; there = ap (eventAt h) (same .0) ∙ w .came .there; effect = w .came .effect ∙ ap Accepts (sym (same .1)) };
+    came = record { cause = w .came .cause; there = ap (eventNumbered h) (same .0) ∙ w .came .there; effect = w .came .effect ∙ ap Accepts (sym (same .1)) };
     caused = caused;
   }
 
@@ -163,7 +163,7 @@ module _ (ids : List ℕ) (h : List Told) where
   each-empty P [] o = each-none P
   each-empty P (x ∷ l) o = absurd (never o refl)
 
-  module _ (n : ℕ) (x : Told) (there : eventAt h n ≡ some x) where
+  module _ (n : ℕ) (x : Told) (there : eventNumbered h n ≡ some x) where
     -- an entry goes on in another way only while it has no ending; and one ending more is by event n
     known-after : (e : Entry) → Known n e → Known (suc n) (afterEffect n (effectTold ids x) e)
     known-after e w =
@@ -222,10 +222,10 @@ entry-new n a l f e waits =
 module _ (ids : List ℕ) (h : List Told) where
   -- each event before n has entered what it accepted
   abbrev EnteredBefore : ℕ → List Entry → Type 0
-  EnteredBefore n l = (m : ℕ) (x : Told) (a : Task) → m < n → eventAt h m ≡ some x → effectTold ids x ≡ Accepts a → EntryOf m a l
+  EnteredBefore n l = (m : ℕ) (x : Told) (a : Task) → m < n → eventNumbered h m ≡ some x → effectTold ids x ≡ Accepts a → EntryOf m a l
 
   none-before : EnteredBefore 1 []
-  unfolding eventAt
+  unfolding eventNumbered
   none-before zero x a b there f = absurd (Option·none-ne-some x there)
   none-before (suc m) x a b there f = absurd (omega arith)
 
@@ -235,12 +235,12 @@ module _ (ids : List ℕ) (h : List Told) where
     | inr c ↦ entry-stays m a l (r m y a c there f) n (effectTold ids x)
   ]
 
-  event-below : (n : ℕ) (x : Told) → eventAt h n ≡ some x → n < 1 + length h
-  unfolding eventAt
+  event-below : (n : ℕ) (x : Told) → eventNumbered h n ≡ some x → n < 1 + length h
+  unfolding eventNumbered
   event-below zero x there = omega arith
   event-below (suc n) x there = omega (arith, nth-below h n there)
 
-  pub entered-in : (n : ℕ) (x : Told) (a : Task) → eventAt h n ≡ some x → effectTold ids x ≡ Accepts a
+  pub entered-in : (n : ℕ) (x : Told) (a : Task) → eventNumbered h n ≡ some x → effectTold ids x ≡ Accepts a
       → (k : ℕ) × (e : Entry) × EntryAt ids h k e × (e .accepted ≡ n) × (waiting (e .task) ≡ a)
   entered-in n x a there f = by-events ids h EnteredBefore entered-kept none-before n x a (event-below n x there) there f
 

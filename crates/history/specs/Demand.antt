@@ -23,7 +23,7 @@ use Rattle.plan.specs.declared.Request.the-variants.{Command, Manage, Confirm}
 use Rattle.plan.specs.declared.Asked.the-variants.{By}
 use Rattle.plan.specs.declared.Answer.the-variants.{Refused}
 use Rattle.engine.specs.declared.Outcome.{Outcome}
-use Rattle.history.specs.Trace.{Event, Message, Start, Finish, TotalReset, Told, nth, eventAt, countsAsStatus, countsAsManagement, countsAsReset, Accepts, ended, fateOf, placeIn, effectTold}
+use Rattle.history.specs.Trace.{Event, Message, Start, Finish, TotalReset, Told, nth, eventNumbered, countsAsStatus, countsAsManagement, countsAsReset, Accepts, ended, fateOf, placeIn, effectTold}
 use Rattle.history.specs.Ledger.{Ending, Entry, isOpen, timesEnded, ledger, countOf, Has, acceptedFrom, endedFrom}
 
 -- ---- calls
@@ -72,14 +72,14 @@ waiting a = acceptedAs (a .arrival) (a .path) (a .tag) (a .unit) (a .kind) (a .c
 -- an entry's command was accepted by an event of the trace, the one whose number stands in the entry
 pub record Came (ids : List ℕ) (h : List Told) (e : Entry) : Type 0 where
   pub cause : Told
-  pub there : eventAt h (e .accepted) ≡ some cause
+  pub there : eventNumbered h (e .accepted) ≡ some cause
   pub effect : effectTold ids cause ≡ Accepts (waiting (e .task))
 
 -- an ending's event is one of the trace, comes after the acceptance, and by its message or event and its answer it ends the command
 pub record Caused (ids : List ℕ) (h : List Told) (e : Entry) (x : Ending) : Type 0 where
   pub after : e .accepted < x .event
   pub cause : Told
-  pub there : eventAt h (x .event) ≡ some cause
+  pub there : eventNumbered h (x .event) ≡ some cause
   pub effect : fateOf (effectTold ids cause) (e .task) ≡ ended (x .how)
 
 -- ended by status + ended by management + ended by reset + live records, for the path at p
@@ -99,7 +99,7 @@ pub record Agrees (ids : List ℕ) (h : List Told) (t : Table) : Type 0 where
   pub once : (k : ℕ) (e : Entry) → EntryAt ids h k e → timesEnded e ≤ 1
   pub came : (k : ℕ) (e : Entry) → EntryAt ids h k e → Came ids h e
   pub caused : (k : ℕ) (e : Entry) (x : Ending) → EntryAt ids h k e → Has x (e .endings) → Caused ids h e x
-  pub entered : (n : ℕ) (x : Told) (a : Task) → eventAt h n ≡ some x → effectTold ids x ≡ Accepts a
+  pub entered : (n : ℕ) (x : Told) (a : Task) → eventNumbered h n ≡ some x → effectTold ids x ≡ Accepts a
       → (k : ℕ) × (e : Entry) × EntryAt ids h k e × (e .accepted ≡ n) × (waiting (e .task) ≡ a)
   -- 3. for the path at each place of the list: accepted = ended by status + ended by management + ended by reset + live records
   pub balance : (p : ℕ) → acceptedFrom ids p h ≡ accountedFor p (ledger ids h) t
@@ -139,7 +139,7 @@ mayReachOthers (Confirm offset complete) = false
 -- in the ledger of any trace, whatever the tags: a command that is ended by another order was the sender's own
 abbrev pub EndsItsOwn : Type 0
 EndsItsOwn = (ids : List ℕ) (h : List Told) (k : ℕ) (e : Entry) (x : Ending) (m buf : List ℕ) (path tag : ℕ) (w : Request)
-    → EntryAt ids h k e → Has x (e .endings) → (y : Told) → eventAt h (x .event) ≡ some y → y .event ≡ Message m buf → askedOf (readOf m) ≡ By path tag w
+    → EntryAt ids h k e → Has x (e .endings) → (y : Told) → eventNumbered h (x .event) ≡ some y → y .event ≡ Message m buf → askedOf (readOf m) ≡ By path tag w
     → mayReachOthers w ≡ false → e .task .path ≡ placeIn ids path
 
 -- in the table: such a message leaves every live record of another path where it is and as it is

@@ -50,9 +50,9 @@ module _ {A : Type 0} where
   nth (x ∷ l) (suc k) = nth l k
 
 -- the event with a number: the first after setup is 1, as in a transcript's lines
-unfoldable pub eventAt : List Told → ℕ → Option Told
-eventAt h zero = none
-eventAt h (suc k) = nth h k
+unfoldable pub eventNumbered : List Told → ℕ → Option Told
+eventNumbered h zero = none
+eventNumbered h (suc k) = nth h k
 
 -- ---- how a command is ended: by status (the STATUS of its finish, or with CONFIRM the confirmation of it), by the order of a message, or by the drive's total reset
 

@@ -12,7 +12,7 @@ use native.Mathlib.Numerals.{add-one}
 use native.Mathlib.Omega.{arith}
 use borrow.Author.Tests.{ltb-true, ltb-false, eqb-false, ne-eqb, lt-ltb, le-ltb, lt-leb}
 use Rattle.task.proofs.Ways.{cond-ind, neither}
-use Rattle.input.specs.Numbers.{joined, numberIn, groupsIn}
+use Rattle.input.specs.Numbers.{withGroup, numberIn, groupsIn}
 use Rattle.input.specs.declared.number.Number.{Number}
 use Rattle.input.specs.declared.number.Number.the-variants.{Value, Bad}
 use Rattle.input.proofs.Moving.{Later, later}
@@ -28,7 +28,7 @@ module _ (left : ℕ) (before : List ℕ) (x : ℕ) (rest : List ℕ) where
   first-group :
       {high next : ℕ} → 128 ≤ x → numberIn left (before ++ x ∷ rest) (length before + 1) ≡ Value high next → (high ≡ 0 → ⊥)
       → x - 128 + high * 128 < 2 ^ 64 → numberIn (suc left) (before ++ x ∷ rest) (length before) ≡ Value (x - 128 + high * 128) next
-  unfolding numberIn joined
+  unfolding numberIn withGroup
   first-group h e z u = simp (lt-ltb _ _ inside, getD-append-seam, le-ltb _ _ h, e, ne-eqb _ _ z, lt-leb _ _ u)
 
 -- a group in front of a number that is read back
@@ -83,8 +83,8 @@ module _ (s : List ℕ) (bytes : (i : ℕ) → getD s i 0 < 256) where
         let e : at + 1 - (at + 1) ≡ 0 = omega arith in
         rw (behind s at (at + 1) l (omega arith), e, lt-ltb _ _ h)
 
-    goes-on : (r : Number) → 128 ≤ getD s at 0 → Later (at + 1) r → Written left (at + 1) r → Written (suc left) at (joined (getD s at 0) r)
-    unfolding joined
+    goes-on : (r : Number) → 128 ≤ getD s at 0 → Later (at + 1) r → Written left (at + 1) r → Written (suc left) at (withGroup (getD s at 0) r)
+    unfolding withGroup
     goes-on Bad h m ih = tt
     goes-on (Value high next) h m ih =
         cond-ind (Written (suc left) at) (eqb high 0 || leb (2 ^ 64) (getD s at 0 - 128 + high * 128)) (λ t. tt)

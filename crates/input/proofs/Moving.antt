@@ -8,7 +8,7 @@ use lib.Dec.{ltb, leb, eqb}
 use native.Mathlib.Nat.{le-refl, le-of-lt}
 use native.Mathlib.Omega.{arith}
 use Rattle.task.proofs.Ways.{cond-ind}
-use Rattle.input.specs.Numbers.{joined, numberIn, numberAt, byteAt, below, given}
+use Rattle.input.specs.Numbers.{withGroup, numberIn, numberAt, byteAt, below, given}
 use Rattle.input.specs.Events.{messageAt, startAt, finishAt, byKind, eventAt}
 use Rattle.input.specs.declared.number.Number.{Number}
 use Rattle.input.specs.declared.number.Number.the-variants as number
@@ -21,8 +21,8 @@ abbrev pub Later : ℕ → Number → Type 0
 Later at number.Bad = Unit {0}
 Later at (number.Value n next) = at < next
 
-joined-later : (at x : ℕ) (r : Number) → Later (at + 1) r → Later at (joined x r)
-unfolding joined
+joined-later : (at x : ℕ) (r : Number) → Later (at + 1) r → Later at (withGroup x r)
+unfolding withGroup
 joined-later at x number.Bad h = tt
 joined-later at x (number.Value high next) h =
     cond-ind (Later at) (eqb high 0 || leb (2 ^ 64) (x - 128 + high * 128)) (λ t. tt) (λ t. omega arith)

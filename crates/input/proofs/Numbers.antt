@@ -9,7 +9,7 @@ use native.Mathlib.Nat.{mod-eq-of-lt}
 use native.Mathlib.Omega.{arith}
 use borrow.Author.Tests.{ltb-true, eq-eqb, ne-eqb, lt-ltb, le-ltb, le-leb, lt-leb}
 use Rattle.task.proofs.Ways.{cond-ind}
-use Rattle.input.specs.Numbers.{joined, numberIn, below, given}
+use Rattle.input.specs.Numbers.{withGroup, numberIn, below, given}
 use Rattle.input.specs.declared.number.Number.{Number}
 use Rattle.input.specs.declared.number.Number.the-variants.{Value, Bad}
 
@@ -32,31 +32,31 @@ module _ (left : ℕ) (s : List ℕ) (at : ℕ) (h : left ≡ 0 → ⊥) where
     last g = rw (← one-less left h) (simp (lt-ltb _ _ l, lt-ltb _ _ g))
 
     module _ (g : 128 ≤ getD s at 0) {r : Number} (e : r ≡ numberIn (left - 1) s (at + 1)) where
-      step : joined (getD s at 0) r ≡ numberIn left s at
+      step : withGroup (getD s at 0) r ≡ numberIn left s at
       unfolding numberIn
       step = rw e (at-next (left - 1) (one-less left h))
         where
-          at-next : (k : ℕ) → suc k ≡ left → joined (getD s at 0) (numberIn k s (at + 1)) ≡ numberIn left s at
+          at-next : (k : ℕ) → suc k ≡ left → withGroup (getD s at 0) (numberIn k s (at + 1)) ≡ numberIn left s at
           at-next k p = rw (← p) (simp (lt-ltb _ _ l, le-ltb _ _ g))
 
       pub no-rest : r ≡ Bad → Bad ≡ numberIn left s at
-      unfolding joined
+      unfolding withGroup
       no-rest q = rw (← step, q)
 
       module _ {high next : ℕ} (q : r ≡ Value high next) where
         pub not-shortest : high ≡ 0 → Bad ≡ numberIn left s at
-        unfolding joined
+        unfolding withGroup
         not-shortest z = rw (← step, q) (simp (eq-eqb _ _ z))
 
         module _ (z : high ≡ 0 → ⊥) where
           pub too-large : 0x0200_0000_0000_0000 ≤ high → Bad ≡ numberIn left s at
-          unfolding joined
+          unfolding withGroup
           too-large b =
               let f : 2 ^ 64 ≤ getD s at 0 - 128 + high * 128 = omega arith in
               rw (← step, q) (simp (ne-eqb _ _ z, le-leb _ _ f))
 
           pub whole : getD s at 0 < 256 → high < 0x0200_0000_0000_0000 → Value (getD s at 0 - 128 + high * 128) next ≡ numberIn left s at
-          unfolding joined
+          unfolding withGroup
           whole x b =
               let f : getD s at 0 - 128 + high * 128 < 2 ^ 64 = omega arith in
               rw (← step, q) (simp (ne-eqb _ _ z, lt-leb _ _ f))

@@ -8,16 +8,16 @@ use Rattle.input.specs.declared.number.Number.{Number}
 use Rattle.input.specs.declared.number.Number.the-variants.{Value, Bad}
 
 -- a group x with another after it, and the number that starts there: that number is not 0, since the form is the shortest, and the whole is below 2^64
-unfoldable pub joined : ℕ → Number → Number
-joined x Bad = Bad
-joined x (Value high next) = cond (eqb high 0 || leb (2 ^ 64) (x - 128 + high * 128)) Bad (Value (x - 128 + high * 128) next)
+unfoldable pub withGroup : ℕ → Number → Number
+withGroup x Bad = Bad
+withGroup x (Value high next) = cond (eqb high 0 || leb (2 ^ 64) (x - 128 + high * 128)) Bad (Value (x - 128 + high * 128) next)
 
 -- the number at a place of s, of at most so many groups, with the place after it
 unfoldable pub numberIn : ℕ → List ℕ → ℕ → Number
 numberIn zero s at = Bad
 numberIn (suc left) s at =
     cond (ltb at (length s))
-    (cond (ltb (getD s at 0) 128) (Value (getD s at 0) (at + 1)) (joined (getD s at 0) (numberIn left s (at + 1))))
+    (cond (ltb (getD s at 0) 128) (Value (getD s at 0) (at + 1)) (withGroup (getD s at 0) (numberIn left s (at + 1))))
     Bad
 
 abbrev pub numberAt : List ℕ → ℕ → Number

@@ -14,7 +14,7 @@ use Rattle.task.specs.Index.{someBelow}
 use Rattle.task.specs.Tasks.{noTask, isHead}
 use Rattle.task.specs.Selections.{picksLive}
 use Rattle.task.specs.Scan.{nobody, takenAt, considered, scanFrom, scan}
-use Rattle.task.specs.Next.{taskAt, Takes, headAt, Stands, Next, no-one, highest-head, lowest, ScanIsNext}
+use Rattle.task.specs.Next.{recordAt, Takes, headAt, Stands, Next, no-one, highest-head, lowest, ScanIsNext}
 use Rattle.task.specs.declared.Task.{Task}
 use Rattle.task.specs.declared.select.Selection.{Selection}
 use Rattle.task.specs.declared.scan.Pick.{Pick}
@@ -28,7 +28,7 @@ upto P k h x i l = ⊎-elim (λ e. subst P (sym e) x) (h i) (below-suc (rw add-o
 
 module _ (live : ℕ) (s : Selection) (tasks : List Task) (k : ℕ) where
   abbrev a : Task
-  a = taskAt live s tasks k
+  a = recordAt live s tasks k
 
   abbrev Old : Pick → Type 0
   Old = Next live s tasks k
@@ -61,7 +61,7 @@ module _ (live : ℕ) (s : Selection) (tasks : List Task) (k : ℕ) where
 
     -- the best so far is a HEAD OF QUEUE task
     after-head : (b : Bool) → headAt live s tasks k ≡ b → (c : Bool) → ltb (r .task .arrival) (a .arrival) ≡ c → Stands live s tasks k r → isHead (r .task .kind) ≡ true
-        → ((i : ℕ) → i < k → Takes live s tasks i → headAt live s tasks i ≡ true → taskAt live s tasks i .arrival ≤ r .task .arrival) → New got
+        → ((i : ℕ) → i < k → Takes live s tasks i → headAt live s tasks i ≡ true → recordAt live s tasks i .arrival ≤ r .task .arrival) → New got
     unfolding considered
     after-head true e true c t d h =
         subst New (sym (simp (w, t .found, d, e, c)))
@@ -73,7 +73,7 @@ module _ (live : ℕ) (s : Selection) (tasks : List Task) (k : ℕ) where
 
     -- it is another
     after-other : (b : Bool) → headAt live s tasks k ≡ b → (c : Bool) → ltb (a .arrival) (r .task .arrival) ≡ c → Stands live s tasks k r → isHead (r .task .kind) ≡ false
-        → ((i : ℕ) → i < k → Takes live s tasks i → (headAt live s tasks i ≡ false) × (r .task .arrival ≤ taskAt live s tasks i .arrival)) → New got
+        → ((i : ℕ) → i < k → Takes live s tasks i → (headAt live s tasks i ≡ false) × (r .task .arrival ≤ recordAt live s tasks i .arrival)) → New got
     unfolding considered
     after-other true e b c t d h =
         subst New (sym (simp (w, t .found, d, e)))

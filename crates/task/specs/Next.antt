@@ -13,28 +13,28 @@ use Rattle.task.specs.declared.select.Selection.{Selection}
 use Rattle.task.specs.declared.scan.Pick.{Pick}
 
 module _ (live : ℕ) (s : Selection) (tasks : List Task) where
-  abbrev pub taskAt : ℕ → Task
-  taskAt i = getD tasks i noTask
+  abbrev pub recordAt : ℕ → Task
+  recordAt i = getD tasks i noTask
 
   -- record i takes part: it is live and picked
   abbrev pub Takes : ℕ → Type 0
-  Takes i = picksLive live s i (taskAt i) ≡ true
+  Takes i = picksLive live s i (recordAt i) ≡ true
 
   abbrev pub headAt : ℕ → Bool
-  headAt i = isHead (taskAt i .kind)
+  headAt i = isHead (recordAt i .kind)
 
   -- r names a record below n that takes part, and the task in it
   pub record Stands (n : ℕ) (r : Pick) : Type 0 where
     pub found : r .found ≡ true
     pub below : r .at < n
     pub takes : Takes (r .at)
-    pub task : r .task ≡ taskAt (r .at)
+    pub task : r .task ≡ recordAt (r .at)
 
   -- r is the right answer for the records below n
   pub data Next (n : ℕ) (r : Pick) : Type 0 where
     no-one : r .found ≡ false → ((i : ℕ) → i < n → Takes i → ⊥) → Next n r
-    highest-head : Stands n r → isHead (r .task .kind) ≡ true → ((i : ℕ) → i < n → Takes i → headAt i ≡ true → taskAt i .arrival ≤ r .task .arrival) → Next n r
-    lowest : Stands n r → isHead (r .task .kind) ≡ false → ((i : ℕ) → i < n → Takes i → (headAt i ≡ false) × (r .task .arrival ≤ taskAt i .arrival)) → Next n r
+    highest-head : Stands n r → isHead (r .task .kind) ≡ true → ((i : ℕ) → i < n → Takes i → headAt i ≡ true → recordAt i .arrival ≤ r .task .arrival) → Next n r
+    lowest : Stands n r → isHead (r .task .kind) ≡ false → ((i : ℕ) → i < n → Takes i → (headAt i ≡ false) × (r .task .arrival ≤ recordAt i .arrival)) → Next n r
 
 -- the scan's answer is right for all records
 abbrev pub ScanIsNext : Type 0

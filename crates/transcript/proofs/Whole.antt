@@ -20,7 +20,7 @@ use Rattle.plan.specs.declared.Answer.the-variants as answer
 use Rattle.plan.specs.declared.Answer.the-variants.{Ready, Accepted, Started, Confirmed, Restarted, Reset, Refused}
 use Rattle.transcript.specs.Lines.{emptyLine, pushed, pushAll, decimalIn, replyText, answerText, lineOf, handedOf, handedIn, Handed}
 use Rattle.transcript.specs.Playing.{turned, turnText, stepOf, lineLeft, Advances, lastText, lastLine}
-use Rattle.transcript.specs.Promises.{Whole, Leaves}
+use Rattle.transcript.specs.Promises.{Fits, Leaves}
 use Rattle.transcript.specs.declared.line.Line.{Line}
 use Rattle.transcript.specs.declared.play.State.{State}
 use Rattle.transcript.specs.declared.play.State.the-variants as state
@@ -45,7 +45,7 @@ put bytes len (b ∷ bs) h l =
     subst (λ (x : Line). Put x bs (len + suc (length bs)) (take len bytes ++ b ∷ bs)) (sym (put-one bytes len b (omega arith)))
     (r .0 ∙ sym e, rw e (r .1 ∙ rw (add-one len, take-suc-set bytes len b (omega arith)) (append-snoc (take len bytes) b bs)))
 
-pub whole : (bs : List ℕ) → length bs ≤ 64 → Whole bs
+pub whole : (bs : List ℕ) → length bs ≤ 64 → Fits bs
 whole bs h =
     let r = put (replicate 64 0) 0 bs refl (omega arith) in
     (simp zero-add at (r .0), simp zero-add at (r .1))
@@ -77,7 +77,7 @@ text-short (Refused n) = omega (arith, decimal-short 20 (n .0))
 line-short : (n : ℕ) (a : Answer) → length (lineOf n a) ≤ 64
 line-short n a = simp length-append (omega (arith, decimal-short 20 n, text-short a))
 
-pub line-whole : (n : ℕ) (a : Answer) → Whole (lineOf n a)
+pub line-whole : (n : ℕ) (a : Answer) → Fits (lineOf n a)
 line-whole n a = whole (lineOf n a) (line-short n a)
 
 last-short : (p : Player) → length (lastText p) ≤ 64
@@ -90,7 +90,7 @@ last-short p = by-state (p .state) refl
     by-state state.Bad e = rw e (omega arith)
     by-state state.Refused e = rw e (simp length-append (omega (arith, decimal-short 20 11)))
 
-pub last-whole : (p : Player) → Whole (lastText p)
+pub last-whole : (p : Player) → Fits (lastText p)
 last-whole p = whole (lastText p) (last-short p)
 
 -- ---- what is left in a lent buffer of 64 bytes or more

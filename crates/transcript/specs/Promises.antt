@@ -24,14 +24,14 @@ abbrev pub PrintsTheText : Type 0
 PrintsTheText = (s : List ℕ) → printed s ≡ textOf s
 
 -- a line fits its 64 bytes: what is written of it is the whole line
-abbrev pub Whole : List ℕ → Type 0
-Whole bs = (pushAll emptyLine bs .len ≡ length bs) × (take (length bs) (pushAll emptyLine bs .bytes) ≡ bs)
+abbrev pub Fits : List ℕ → Type 0
+Fits bs = (pushAll emptyLine bs .len ≡ length bs) × (take (length bs) (pushAll emptyLine bs .bytes) ≡ bs)
 
 abbrev pub LinesAreWhole : Type 0
-LinesAreWhole = (n : ℕ) (a : Answer) → Whole (lineOf n a)
+LinesAreWhole = (n : ℕ) (a : Answer) → Fits (lineOf n a)
 
 abbrev pub LastLinesAreWhole : Type 0
-LastLinesAreWhole = (p : Player) → Whole (lastText p)
+LastLinesAreWhole = (p : Player) → Fits (lastText p)
 
 -- a text left at the front of a buffer: as many bytes were written as it has, and they are the text
 abbrev pub Leaves : List ℕ → ℕ → List ℕ → Type 0

@@ -10,7 +10,7 @@ use reply::Reply;
 use wire::codes::Sense;
 
 pub struct Line {
-    pub bytes: [u8; 64],
+    pub bytes: [u8; LINE_ROOM],
     pub len: usize,
 }
 
@@ -21,7 +21,7 @@ pub(crate) fn empty() -> Line
     ensures { λ r. ⌜ r ≡ emptyLine ⌝ }
 {
     Line {
-        bytes: [0u8; 64],
+        bytes: [0u8; LINE_ROOM],
         len: 0,
     }
 }

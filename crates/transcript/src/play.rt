@@ -10,6 +10,7 @@ use input::event::Event;
 use input::event::Next;
 use plan::Answer;
 use table::Table;
+use wire::codes::REPLY_ROOM;
 
 // Where a player stands: in an input that goes on, at its end, at something malformed, or at a refused setup.
 pub enum State {
@@ -87,7 +88,7 @@ fn is_refused(answer: Answer) -> bool
 fn call(t: Table, s: &[u8], e: Event) -> Outcome
     ensures { λ r. ⌜ r ≡ called t (now (s .entry)) e ⌝ }
 {
-    let mut reply = [0u8; 64];
+    let mut reply = [0u8; REPLY_ROOM];
     match e {
         Event::Message { from, until } => engine::calls::message(
             t,

@@ -14,7 +14,7 @@ use borrow.Author.Count.{below-none, below-more}
 use borrow.Author.Tests.{le-ltb, eq-eqb, ne-eqb, eqb-true, eqb-false, not-false}
 use Rattle.wire.specs.Codes.{scsiCommand, confirmStatus}
 use Rattle.wire.specs.Fields.{byte}
-use Rattle.wire.specs.Messages.{rows, placeOf, rowOf, commandReserved, confirmReserved, reservedSet}
+use Rattle.wire.specs.Messages.{rows, rowIn, rowOf, commandReserved, confirmReserved, reservedSet}
 use Rattle.wire.proofs.Table.{every, at, cond-ind, neither}
 
 -- a mask for each of the first 17 bytes, with the reserved bits set: a command's, CONFIRM STATUS's, then those of the other rows
@@ -137,7 +137,7 @@ module _ (m : List ℕ) {row x : ℕ} (e : x ≡ byte m 1) (r : row ≡ rowOf x)
 
   -- the row is a command's, that of CONFIRM STATUS, or one after them
   each-row : (P : Bool → Type 0) → (row ≡ 0 → P (commandReserved m)) → (row ≡ 1 → P (confirmReserved m)) → (2 ≤ row → P false) → P (reservedSet m)
-  unfolding reservedSet placeOf
+  unfolding reservedSet rowIn
   each-row P first second others =
       cond-ind P (eqb (byte m 1) scsiCommand) (λ h. first (rw (eqb-true (byte m 1) scsiCommand h) at of-row))
       (λ n. cond-ind P (eqb (byte m 1) confirmStatus) (λ h. second (rw (eqb-true (byte m 1) confirmStatus h) at of-row))

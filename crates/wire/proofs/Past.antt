@@ -11,7 +11,7 @@ use native.Mathlib.Omega.{arith}
 use borrow.Author.Tests.{leb-true, le-ltb, ltb-false, eqb-true, eqb-false}
 use Rattle.wire.specs.Codes.{tooShort, scsiCommand, confirmStatus}
 use Rattle.wire.specs.Fields.{byte, word, long}
-use Rattle.wire.specs.Messages.{lengths, rows, placeOf, rowOf, lengthOf, confirmOf, fieldsOf, readOf, commandReserved, confirmReserved, reservedSet}
+use Rattle.wire.specs.Messages.{lengths, rows, rowIn, rowOf, lengthOf, confirmOf, fieldsOf, readOf, commandReserved, confirmReserved, reservedSet}
 use Rattle.wire.specs.Block.{blockLengths, blockLength, opcode, cutShort, noBlock, linked, blockOf}
 use Rattle.wire.specs.Promises.{Whole, PastIsNotRead}
 use Rattle.wire.specs.declared.codes.Refusal.{Refusal}
@@ -123,7 +123,7 @@ module _ (m rest : List ℕ) where
       each-reading (λ r. ((n : Refusal) → r ≡ Refused n → ⊥) → Long) m (λ n. absurd (n _ refl)) (λ _ _ n. absurd (n _ refl)) (λ _ _ _ n. absurd (n _ refl)) (λ h _ _ l _. (h, l))
 
   reserved : Whole m → reservedSet (m ++ rest) ≡ reservedSet m
-  unfolding reservedSet commandReserved confirmReserved placeOf
+  unfolding reservedSet commandReserved confirmReserved rowIn
   reserved w =
       let l = long-enough (w .fields) in
       rw (same 1 (l .0))

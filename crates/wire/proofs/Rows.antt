@@ -13,7 +13,7 @@ use native.Mathlib.Omega.{arith}
 use borrow.Author.Tests.{lt-ltb, le-ltb, ltb-false, eq-eqb, ne-eqb, eqb-true, eqb-false, not-true, not-false}
 use Rattle.wire.specs.Codes.{tooShort, notHandled, smsCode}
 use Rattle.wire.specs.Fields.{byte, joined, word, long}
-use Rattle.wire.specs.Messages.{codes, rows, placeOf, rowOf, lengthOf, flagsOf, confirmOf, fieldsOf, readOf}
+use Rattle.wire.specs.Messages.{codes, rows, rowIn, rowOf, lengthOf, flagsOf, confirmOf, fieldsOf, readOf}
 use Rattle.wire.proofs.Table.{cond-ind}
 use Rattle.wire.specs.declared.message.Flags.{Flags}
 use Rattle.wire.specs.declared.message.Message.{Message}
@@ -23,31 +23,31 @@ use Rattle.wire.specs.declared.message.Message.the-variants.{Command, Co
 
 -- the first k entries are not x
 abbrev pub Passed : List ℕ → ℕ → ℕ → Type 0
-Passed xs x k = placeOf x xs ≡ k + placeOf x (drop k xs)
+Passed xs x k = rowIn x xs ≡ k + rowIn x (drop k xs)
 
 module _ (xs : List ℕ) (x k : ℕ) (h : k < length xs) (l : Passed xs x k) where
-  pub found : getD xs k 0 ≡ x → k ≡ placeOf x xs
-  unfolding placeOf
+  pub found : getD xs k 0 ≡ x → k ≡ rowIn x xs
+  unfolding rowIn
   found e = sym (l ∙ rw (drop-cons xs k 0) (simp (eq-eqb _ _ e, add-zero)))
 
   pub next : (getD xs k 0 ≡ x → ⊥) → Passed xs x (k + 1)
-  unfolding placeOf
+  unfolding rowIn
   next n = l ∙ rw (drop-cons xs k 0) (simp (ne-eqb _ _ n, add-one) (omega arith))
 
-pub ended : (xs : List ℕ) (x k : ℕ) → k ≤ length xs → length xs ≤ k → Passed xs x k → length xs ≡ placeOf x xs
-unfolding placeOf
+pub ended : (xs : List ℕ) (x k : ℕ) → k ≤ length xs → length xs ≤ k → Passed xs x k → length xs ≡ rowIn x xs
+unfolding rowIn
 ended xs x k g h l =
     let e : length xs ≡ k = omega arith in
     e ∙ sym (simp (drop-of-length-le xs h, add-zero) at l)
 
-place-within : (x : ℕ) (xs : List ℕ) → placeOf x xs ≤ length xs
-unfolding placeOf
+place-within : (x : ℕ) (xs : List ℕ) → rowIn x xs ≤ length xs
+unfolding rowIn
 place-within x [] = zero-le
 place-within x (y ∷ ys) = cond-ind (λ n. n ≤ suc (length ys)) (eqb y x) (λ _. zero-le) (λ _. omega (arith, place-within x ys))
 
 -- at the place of x stands x
-pub place-holds : (x : ℕ) (xs : List ℕ) → placeOf x xs < length xs → getD xs (placeOf x xs) 0 ≡ x
-unfolding placeOf
+pub place-holds : (x : ℕ) (xs : List ℕ) → rowIn x xs < length xs → getD xs (rowIn x xs) 0 ≡ x
+unfolding rowIn
 place-holds x [] = λ h. absurd (omega arith)
 place-holds x (y ∷ ys) =
     cond-ind (λ k. k < suc (length ys) → getD (y ∷ ys) k 0 ≡ x) (eqb y x) (λ e h. eqb-true y x e)

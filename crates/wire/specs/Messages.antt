@@ -26,12 +26,12 @@ abbrev pub rows : ℕ
 rows = 8
 
 -- the place of the first x in the list; its length where there is none
-unfoldable pub placeOf : ℕ → List ℕ → ℕ
-placeOf x [] = 0
-placeOf x (y ∷ ys) = cond (eqb y x) 0 (placeOf x ys + 1)
+unfoldable pub rowIn : ℕ → List ℕ → ℕ
+rowIn x [] = 0
+rowIn x (y ∷ ys) = cond (eqb y x) 0 (rowIn x ys + 1)
 
 abbrev pub rowOf : ℕ → ℕ
-rowOf code = placeOf code codes
+rowOf code = rowIn code codes
 
 abbrev pub lengthOf : ℕ → ℕ
 lengthOf row = getD lengths row 0
