@@ -202,7 +202,8 @@ fn finish_in(t: Table, c: &[u8], room: &mut [u8], n: usize) -> Table {
     end_in(t, c, &mut room[0..n])
 }
 
-// Letter F: a finish, from the buffer's length, the arrival number, the status, the sense and, in a seventh byte, the bytes transferred.
+// Letter F: a finish, from the buffer's length, the arrival number, the status, the sense and, in a seventh byte, the
+// bytes transferred.
 fn finish(t: Table, c: &[u8]) -> Table {
     if c.len() != 6 {
         if !has(c, 7) {

@@ -1,5 +1,5 @@
-// Runs cases, bytes and calls: echoes each line of standard input, then of the file `confirmed`, and answers it where it is a case.
-// A table is kept from line to line of each.
+// Runs cases, bytes and calls: echoes each line of standard input, then of the file `confirmed`, and answers it where
+// it is a case. A table is kept from line to line of each.
 mod cases;
 mod engine_cases;
 mod print;

@@ -206,7 +206,8 @@ const OFFSET: u8 = 16;
 
 const CONFIRM: u8 = 17;
 
-// How many places a field has: 64 live bits and records, 8 paths and units, one of the others; none where there is no such field.
+// How many places a field has: 64 live bits and records, 8 paths and units, one of the others; none where there is no
+// such field.
 fn places(field: u8) -> usize {
     if field == 0 {
         return 0;

@@ -1,4 +1,5 @@
--- The reply to ABORT TASK depends only on the message, the path list, the attached units and the sender's own live tasks. Assumes nothing.
+-- The reply to ABORT TASK depends only on the message, the path list, the attached units and the sender's own live
+-- tasks. Assumes nothing.
 use Prim.Native.Nat.{ℕ, _≤_}
 use mathlib.Core.Path.{_≡_, refl, sym, ap, _∙_}
 use mathlib.Core.Bool.{Bool, true, false, cond}

@@ -124,7 +124,8 @@ carried-heard t m (By path tag w) = refl
 
 -- ---- the reply
 
--- what a match tells of its last arm: the answer is of none of the sorts named before it, so it is no reply, or not an acceptance
+-- what a match tells of its last arm: the answer is of none of the sorts named before it, so it is no reply, or not
+-- an acceptance
 abbrev noReplies : List ℕ
 noReplies = 0 ∷ 1 ∷ 3 ∷ 4 ∷ 5 ∷ 6 ∷ 7 ∷ []
 

@@ -1,4 +1,5 @@
--- What becomes of a task that waits to be confirmed: `confirmed` ends it, `restarted` has it wait again, and every other record stays. Assumes nothing.
+-- What becomes of a task that waits to be confirmed: `confirmed` ends it, `restarted` has it wait again, and every
+-- other record stays. Assumes nothing.
 use Prim.Native.Nat.{ℕ, _<_, _≤_}
 use mathlib.Core.Path.{_≡_, refl, sym, ap, subst, _∙_}
 use mathlib.Core.Bool.{Bool, true, false}
@@ -12,7 +13,8 @@ use Rattle.task.specs.Selections.{picks, named, numberedAs}
 use Rattle.task.specs.declared.Task.{Task}
 use Rattle.task.specs.declared.scan.Pick.{Pick}
 use Rattle.task.specs.declared.select.Selection.{Selection}
-use Rattle.task.proofs.Ways.{cond-ind, both}
+use Rattle.wire.proofs.Table.{cond-ind}
+use Rattle.task.proofs.Ways.{both}
 use Rattle.task.proofs.Selecting.{meets, picks-named}
 use Rattle.table.specs.Tables.{pathOf, pickOf, endedBy, restarted}
 use Rattle.table.specs.View.{at}

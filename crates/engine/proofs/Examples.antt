@@ -19,7 +19,8 @@ use Rattle.plan.specs.Plans.{orderPlan, confirmPlan}
 use Rattle.engine.specs.Calls.{heardOf, planAt, planFor, withRecords, carriedOut, answeredTo, messageOf, choiceOn, startVerdict, startOf, finishVerdict, finishOf, setupOf, replied}
 use Rattle.engine.specs.Examples.{quiet, tasksFrom, full, examples, waits, underway, unconfirmed, again8, confirmations, shared, orders, ExamplesHold, WorkedCalls, ConfirmationsHold, ConfirmedCalls, OrdersEnd}
 
--- the definitions that these are computed by: of messages and replies, of tasks and tables, of rules, orders and plans, of the calls and the examples
+-- the definitions that these are computed by: of messages and replies, of tasks and tables, of rules, orders and
+-- plans, of the calls and the examples
 unfoldable bytes : Unit {0}
 unfolding rowIn fieldsOf readOf commandReserved confirmReserved reservedSet cutShort noBlock linked writableOf bytesOf leftOf
 bytes = tt
@@ -36,7 +37,8 @@ unfoldable calls : Unit {0}
 unfolding heardOf planAt planFor withRecords carriedOut answeredTo messageOf choiceOn startVerdict startOf finishVerdict finishOf setupOf replied quiet tasksFrom full examples waits underway unconfirmed again8 confirmations shared orders
 calls = tt
 
-unfoldable computing : Unit {0}
+-- all of them, for the crates above too
+unfoldable pub computing : Unit {0}
 unfolding bytes tables answers calls
 computing = tt
 

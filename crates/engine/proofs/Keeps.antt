@@ -16,7 +16,8 @@ use Rattle.task.specs.Selections.{picks, everyTask, named, onUnit, acaOn, acaFr
 use Rattle.task.specs.declared.Kind.the-variants as kind
 use Rattle.task.specs.declared.Task.{Task}
 use Rattle.task.specs.declared.select.Place.the-variants.{Anywhere, On}
-use Rattle.task.proofs.Ways.{never, cond-ind, both}
+use Rattle.wire.proofs.Table.{cond-ind}
+use Rattle.task.proofs.Ways.{never, both}
 use Rattle.task.proofs.Places.{first-picks}
 use Rattle.task.proofs.Selecting.{meets, picks-every, picks-on, picks-aca-on, picks-aca-from-on}
 use Rattle.table.specs.Tables.{placeOf, pathOf, unitAt, taskAt, hasAca, ownedBy, anyLive, pickOf, hasRoom, othersOn, withPaths, endedBy, markedIn, resetAttentionIn}
@@ -79,7 +80,8 @@ owner-alone f g = cases (f .aca) (f .owned) (asksAca g) (f .busy)
     cases true true true true a b s = absurd (never refl b)
     cases true true true false a b s = (refl, refl)
 
--- the rules by their places in the list: 2 is rule 1's room, 3 is rule 2, 6 is rule 5, 7 is rule 6, 8 and 9 are rule 7, 12 is rule 9
+-- the rules by their places in the list: 2 is rule 1's room, 3 is rule 2, 6 is rule 5, 7 is rule 6, 8 and 9 are rule
+-- 7, 12 is rule 9
 module _ (t : Table) (p tag lun : ℕ) (flags : Flags) (m : List ℕ) where
   abbrev pub facts : Facts
   facts = factsOf t p tag lun

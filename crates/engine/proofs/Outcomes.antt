@@ -13,7 +13,7 @@ use Rattle.wire.specs.declared.codes.Sense.{Sense}
 use Rattle.reply.specs.declared.Reply.the-variants as reply
 use Rattle.task.specs.Selections.{runningOn, runningAs, numberedAs}
 use Rattle.task.specs.declared.scan.Pick.{Pick}
-use Rattle.task.proofs.Ways.{cond-ind}
+use Rattle.wire.proofs.Table.{cond-ind}
 use Rattle.table.specs.Tables.{pathOf, pathAt, isAttached, pickOf, started, finished, resetOf}
 use Rattle.table.specs.Sound.{soundOf}
 use Rattle.table.specs.declared.Table.{Table}
@@ -95,7 +95,8 @@ module _ (P : Outcome → Type 0) (t : Table) (stops : (n : Refusal) → P (refu
   unfolding totalResetOf
   each-reset goes = cond-ind P (not (soundOf t)) (λ _. stops _) (λ _. goes)
 
--- a confirmation: FFh, or 15, or the task that waits to be confirmed ends, or it waits again at an offset within the bytes transferred
+-- a confirmation: FFh, or 15, or the task that waits to be confirmed ends, or it waits again at an offset within the
+-- bytes transferred
 module _ (P : Plan → Type 0) (own : Pick) (p tag : ℕ) (m : List ℕ) (offset : ℕ) (complete : Bool) where
   pub each-confirm : P (planned (answer.Reply (reply.Response tag Codes.invalidField)) change.Nothing records.Nothing) → P (refusing Codes.nothingToConfirm)
       → (isAwaited own ≡ true → complete ≡ true → P (planned (answer.Confirmed (own .task .arrival)) change.Nothing (records.End (numberedAs (own .task .arrival) p tag))))

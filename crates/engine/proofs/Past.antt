@@ -1,4 +1,5 @@
--- Bytes past the specified length are not read: they change neither the outcome of a message nor the command block handed over. Assumes nothing.
+-- Bytes past the specified length are not read: they change neither the outcome of a message nor the command block
+-- handed over. Assumes nothing.
 use Prim.Native.Nat.{ℕ}
 use mathlib.Core.Path.{_≡_, refl, sym, _∙_}
 use mathlib.Core.Bool.{false, cond, not}
@@ -14,7 +15,8 @@ use Rattle.wire.specs.declared.message.Message.{Message}
 use Rattle.wire.specs.declared.message.Message.the-variants.{Command, ConfirmStatus, AbortTask, AbortTaskSet, ClearTaskSet, TargetReset, ClearAca, UnitReset, Refused}
 use Rattle.wire.proofs.Promises.{read-by-code}
 use Rattle.wire.proofs.Past.{past-is-not-read as past}
-use Rattle.task.proofs.Ways.{either-way, cond-ind}
+use Rattle.wire.proofs.Table.{cond-ind}
+use Rattle.task.proofs.Ways.{either-way}
 use Rattle.table.specs.Sound.{soundOf}
 use Rattle.table.specs.declared.Table.{Table}
 use Rattle.rules.specs.First.{Rule, firstThat}

@@ -1,4 +1,5 @@
--- Where a call's answer is a reply, it is one that can be written, and it stands at the front of the buffer: rule by rule, order by order, and for what a device may send. Assumes nothing.
+-- Where a call's answer is a reply, it is one that can be written, and it stands at the front of the buffer: rule by
+-- rule, order by order, and for what a device may send. Assumes nothing.
 use Prim.Native.Nat.{ℕ, _≤_}
 use mathlib.Core.Path.{_≡_, refl, sym, ap, _∙_}
 use mathlib.Core.Bool.{Bool, true, false, cond, not, _&&_, _||_}
@@ -20,7 +21,8 @@ use Rattle.reply.specs.Calls.{leftOf}
 use Rattle.reply.specs.declared.Reply.{Reply}
 use Rattle.reply.specs.declared.Reply.the-variants as reply
 use Rattle.reply.proofs.Promises.{no-reply-is-longer}
-use Rattle.task.proofs.Ways.{never, cond-ind, both}
+use Rattle.wire.proofs.Table.{cond-ind}
+use Rattle.task.proofs.Ways.{never, both}
 use Rattle.table.specs.declared.Table.{Table}
 use Rattle.rules.specs.Rules.{roomRules, fieldRules, unitRules, blockRules, accepts, commandRules, deciding}
 use Rattle.rules.specs.Management.{hasUnit, carriedCode, orderCode}

@@ -1,5 +1,4 @@
 -- The answers are one: each by the law that an equation determines its left side. Assumes nothing.
-use mathlib.Core.Path.{_≡_}
 use mathlib.Core.List.{List}
 use Prim.Native.Nat.{ℕ}
 use Rattle.wire.proofs.Unique.{determined}

@@ -1,4 +1,5 @@
--- What each call answers, what table it hands back, and what it leaves in the reply buffer: the refusals in their order, then the rest.
+-- What each call answers, what table it hands back, and what it leaves in the reply buffer: the refusals in their
+-- order, then the rest.
 use Prim.Native.Nat.{ℕ}
 use mathlib.Core.Path.{_≡_}
 use mathlib.Core.Bool.{Bool, true, false, cond, not, _&&_, _||_}
@@ -112,7 +113,8 @@ messageOf t m n = answeredTo t m (heardOf (soundOf t) n m)
 
 -- ---- a call of the device: what it comes to, then the one record changes
 
--- the answer, the record that it is about, and the id of the path that the reply goes to; 64 is no record, and no change of it changes the table
+-- the answer, the record that it is about, and the id of the path that the reply goes to; 64 is no record, and no
+-- change of it changes the table
 abbrev pub verdict : Answer → ℕ → ℕ → Verdict
 verdict a place to = record { answer = a; place = place; to = to }
 
@@ -129,7 +131,8 @@ mayGo aca unit = cond (hasAca aca) (acaWaitingOn unit) (waitingOn unit)
 unfoldable pub choiceOn : Table → ℕ → Pick
 choiceOn t unit = pickOf t (mayGo (unitAt t unit .aca) unit)
 
--- the arrival number is answered, and the offset to start at: the one named by the last restart, 0 for a task never restarted
+-- the arrival number is answered, and the offset to start at: the one named by the last restart, 0 for a task never
+-- restarted
 abbrev pub goes : Pick → Verdict
 goes p = verdict (answer.Started (p .task .offset) (p .task .arrival)) (p .at) 0
 
@@ -193,7 +196,8 @@ leftWith buf (some r) = leftOf r buf
 unfoldable pub replied : Answer → List ℕ → List ℕ
 replied a buf = leftWith buf (replyOf a)
 
--- the contract of a call with a reply buffer: the outcome o is the one defined, and the buffer is left as its answer asks
+-- the contract of a call with a reply buffer: the outcome o is the one defined, and the buffer is left as its answer
+-- asks
 pub record Answers (defined : Outcome) (buf : List ℕ) (o : Outcome) (left : List ℕ) : Type 0 where
   pub outcome : o ≡ defined
   pub buffer : left ≡ replied (defined .answer) buf

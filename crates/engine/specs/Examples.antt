@@ -1,5 +1,5 @@
--- Page 01's proved examples a to l as one table, its worked calls, confirmed status as another table, and what each order ends.
--- Paths 1 and 2, mask 01h, no attention, nothing live unless said; tag 0005h, path 1, kind 3, zero CDB.
+-- Page 01's proved examples a to l as one table, its worked calls, confirmed status as another table, and what each
+-- order ends. Paths 1 and 2, mask 01h, no attention, nothing live unless said; tag 0005h, path 1, kind 3, zero CDB.
 use Prim.Native.Nat.{ℕ, zero, suc, _+_, _-_, _^_}
 use mathlib.Core.Path.{_≡_}
 use mathlib.Core.Bool.{true, false}
@@ -183,7 +183,8 @@ contradicting = command 1 0 0x53 0 zeros
 abbrev pub confirm : ℕ → ℕ → ℕ → List ℕ → List ℕ
 confirm path new offset last = 0x83 ∷ 0x12 ∷ 0 ∷ 5 ∷ 0 ∷ 0 ∷ 0 ∷ path ∷ 0 ∷ 0 ∷ 0 ∷ new ∷ 0 ∷ 0 ∷ 0 ∷ offset ∷ last
 
--- the tables on the way: tag 0005h with CONFIRM of paths 1 and 2 waits; that of path 1 runs; 16 bytes were transferred; it is to start again at 8
+-- the tables on the way: tag 0005h with CONFIRM of paths 1 and 2 waits; that of path 1 runs; 16 bytes were
+-- transferred; it is to start again at 8
 unfoldable pub waits : Table
 waits = accepted (accepted quiet 0 5 0 Simple true) 1 5 0 Simple true
 
@@ -218,7 +219,8 @@ confirmations =
 abbrev pub ConfirmationsHold : Type 0
 ConfirmationsHold = map got confirmations ≡ map said confirmations
 
--- the device's side: the unit is free and path 2's task goes; the finished one runs no more; restarted, it goes first, and the offset is handed back
+-- the device's side: the unit is free and path 2's task goes; the finished one runs no more; restarted, it goes
+-- first, and the offset is handed back
 abbrev pub ConfirmedCalls : Type 0
 ConfirmedCalls =
     map (λ (o : Outcome). o .answer) (startOf unconfirmed 0 ∷ finishOf unconfirmed 1 Codes.good Codes.noSense 16 64 ∷ startOf again8 0 ∷ [])
@@ -226,7 +228,8 @@ ConfirmedCalls =
 
 -- ---- what an order ends
 
--- tag 0005h of paths 1 and 2 on unit 0, the second unconfirmed, and tag 0006h of path 2, the ACA task, on unit 1: records 0, 1 and 2, so that live is 7
+-- tag 0005h of paths 1 and 2 on unit 0, the second unconfirmed, and tag 0006h of path 2, the ACA task, on unit 1:
+-- records 0, 1 and 2, so that live is 7
 abbrev pub owned : Table
 owned = record {
   live = 0;
@@ -258,6 +261,7 @@ orders =
     ∷ order 0x33 []
     ∷ []
 
--- ABORT TASK of its own tag 5, 6 and of none; ABORT TASK SET and CLEAR TASK SET on unit 0; CLEAR ACA on units 0 and 1; the resets: the records left live
+-- ABORT TASK of its own tag 5, 6 and of none; ABORT TASK SET and CLEAR TASK SET on unit 0; CLEAR ACA on units 0 and
+-- 1; the resets: the records left live
 abbrev pub OrdersEnd : Type 0
 OrdersEnd = map (λ (m : List ℕ). messageOf shared m 64 .table .live) orders ≡ 5 ∷ 3 ∷ 7 ∷ 5 ∷ 4 ∷ 7 ∷ 3 ∷ 4 ∷ 0 ∷ []

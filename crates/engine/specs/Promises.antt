@@ -1,4 +1,5 @@
--- What is promised of the calls beside their contracts. Each is proved in proofs/Promises.antt or a file that it names; Unique.antt has that outcomes are one.
+-- What is promised of the calls beside their contracts. Each is proved in proofs/Promises.antt or a file that its
+-- first lines name; Unique.antt has that outcomes are one.
 use Prim.Native.Nat.{ℕ, _<_, _≤_, _^_}
 use mathlib.Core.Path.{_≡_}
 use mathlib.Core.Bool.{Bool, true, false}
@@ -55,14 +56,15 @@ SetupRefusals = (ids : List ℕ) (attached first : ℕ) (o : Outcome) (n : Refus
 
 -- ---- where the answer is a reply, that reply is written
 
--- r is one that the engine can write, no longer than 64 bytes; its bytes stand at the front of the buffer, and those after it keep their values
+-- r is one that the engine can write, no longer than 64 bytes; its bytes stand at the front of the buffer, and those
+-- after it keep their values
 pub record ReplyWritten (r : Reply) (buf left : List ℕ) : Type 0 where
   pub writable : writableOf r ≡ true
   pub no-longer : length (bytesOf r) ≤ replyRoom
   pub in-front : left ≡ placed (bytesOf r) buf
 
--- whatever the buffer: with under 64 bytes no answer is a reply. So no other code than 00h, 01h, 04h, 20h and FFh goes out, no other status than the six,
--- RETURN CODE FFh with 00h alone, and no reply is left unwritten
+-- whatever the buffer: with under 64 bytes no answer is a reply. So no other code than 00h, 01h, 04h, 20h and FFh
+-- goes out, no other status than the six, RETURN CODE FFh with 00h alone, and no reply is left unwritten
 pub record RepliesAreWritten : Type 0 where
   pub message : (t : Table) (m buf : List ℕ) (o : Outcome) (left : List ℕ) (r : Reply)
       → MessageContract t m buf o left → replyOf (o .answer) ≡ some r → ReplyWritten r buf left
@@ -77,7 +79,8 @@ AcceptedIsWhole = (t : Table) (m buf : List ℕ) (o : Outcome) (left : List ℕ)
     → MessageContract t m buf o left → o .answer ≡ answer.Accepted arrival
     → (cutShort m ≡ false) × (noBlock m ≡ false) × (length (handedOver m (o .answer)) ≡ blockLength m)
 
--- the record of one of the tasks that may go, and of these the one that goes next: it runs in the table after, and its arrival number and offset are the answer
+-- the record of one of the tasks that may go, and of these the one that goes next: it runs in the table after, and
+-- its arrival number and offset are the answer
 pub record Goes (t : Table) (unit offset arrival : ℕ) (after : Table) : Type 0 where
   pub pick : Pick
   pub found : pick .found ≡ true
@@ -109,8 +112,9 @@ pub record OnlyRecord (i : ℕ) (t u : Table) : Type 0 where
   pub paths : u .paths ≡ t .paths
   pub units : u .units ≡ t .units
 
--- `confirmed` and `restarted` name the sender's own task that waits to be confirmed. `confirmed` is the answer where COMPLETE is set, and ends it; `restarted`
--- where COMPLETE is clear, and has it wait again under its number, at an offset within the bytes transferred; all else stays. No reply is sent
+-- `confirmed` and `restarted` name the sender's own task that waits to be confirmed. `confirmed` is the answer where
+-- COMPLETE is set, and ends it; `restarted` where COMPLETE is clear, and has it wait again under its number, at an
+-- offset within the bytes transferred; all else stays. No reply is sent
 pub record ConfirmsItsOwn : Type 0 where
   pub confirmed : (t : Table) (m buf : List ℕ) (o : Outcome) (left : List ℕ) (path tag offset arrival : ℕ) (complete : Bool)
       → Good t → MessageContract t m buf o left → askedOf (readOf m) ≡ By path tag (Confirm offset complete) → o .answer ≡ answer.Confirmed arrival
@@ -122,7 +126,8 @@ pub record ConfirmsItsOwn : Type 0 where
 
 -- ---- bytes past the specified length are not read
 
--- whatever comes after a whole message, the outcome is the same; and whatever comes after a whole command block, the same block is handed over
+-- whatever comes after a whole message, the outcome is the same; and whatever comes after a whole command block, the
+-- same block is handed over
 pub record PastIsNotRead : Type 0 where
   pub outcome : (t : Table) (m rest : List ℕ) (n : ℕ) → Whole m → messageOf t (m ++ rest) n ≡ messageOf t m n
   pub command-block : (m rest : List ℕ) (a : Answer) → cutShort m ≡ false → handedOver (m ++ rest) a ≡ handedOver m a

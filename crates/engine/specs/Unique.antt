@@ -1,4 +1,5 @@
--- Each call's contract determines what it answers: two outcomes that meet it are equal, and so are the reply buffers as they are left.
+-- Each call's contract determines what it answers: two outcomes that meet it are equal, and so are the reply buffers
+-- as they are left.
 use Prim.Native.Nat.{ℕ}
 use mathlib.Core.Path.{_≡_}
 use mathlib.Core.List.{List}
@@ -9,7 +10,8 @@ use Rattle.plan.specs.declared.Answer.{Answer}
 use Rattle.engine.specs.Calls.{SetupContract, MessageContract, StartContract, FinishContract, TotalResetContract, CommandBlockContract}
 use Rattle.engine.specs.declared.Outcome.{Outcome}
 
--- what meets a contract is one: an outcome, or the part that is handed over; and of a call with a reply buffer the outcome and the buffer
+-- what meets a contract is one: an outcome, or the part that is handed over; and of a call with a reply buffer the
+-- outcome and the buffer
 abbrev pub Only : {A : Type 0} → (A → Type 0) → Type 0
 Only {A} Contract = (x y : A) → Contract x → Contract y → x ≡ y
 

@@ -85,8 +85,8 @@ fn plan_for(s: Lookup, next: u64, p: u8, tag: u16, m: &[u8], w: Request) -> Plan
     plan::find_plan(s, next, p, tag, m, w)
 }
 
-// A message received: the next table, the answer, and the reply in the buffer. The plan is found first, then carried out on the one table:
-// paths and units in place, then the records.
+// A message received: the next table, the answer, and the reply in the buffer. The plan is found first, then carried
+// out on the one table: paths and units in place, then the records.
 pub fn message(mut t: Table, m: &[u8], reply: &mut [u8]) -> Outcome
     ensures { λ o. ⌜ MessageContract t (now (m .entry)) (now (reply .entry)) o (now (reply .exit)) ⌝ }
 {
@@ -147,7 +147,8 @@ fn may_go(aca: Aca, unit: u8) -> Selection
     Selection::waiting_on(unit)
 }
 
-// What a call of the device comes to: the answer, the record that it is about, or 64, and the id of the path that the reply goes to.
+// What a call of the device comes to: the answer, the record that it is about, or 64, and the id of the path that the
+// reply goes to.
 pub struct Verdict {
     pub answer: Answer,
     pub place: usize,
@@ -239,7 +240,8 @@ fn sent_sense(status: StatusByte, sense: Sense) -> Sense
     Sense::NONE
 }
 
-// The task that the device has finished, with the STATUS to send, or why there is none; for a reply buffer of n bytes.
+// The task that the device has finished, with the STATUS to send, or why there is none; for a reply buffer of n
+// bytes.
 fn judge(t: Table, arrival: u64, status: StatusByte, sense: Sense, n: usize) -> Verdict
     ensures { λ r. ⌜ r ≡ finishVerdict t arrival status sense n ⌝ }
 {
@@ -269,7 +271,8 @@ fn judge(t: Table, arrival: u64, status: StatusByte, sense: Sense, n: usize) -> 
     }
 }
 
-// The device has finished the running task of an arrival number, after so many bytes: it ends, or with CONFIRM waits to be confirmed.
+// The device has finished the running task of an arrival number, after so many bytes: it ends, or with CONFIRM waits
+// to be confirmed.
 pub fn finish(
     mut t: Table,
     arrival: u64,
@@ -332,7 +335,8 @@ pub fn setup(ids: &[u32], attached: u8, first: u64) -> Outcome
     }
 }
 
-// The command block that goes to the device with an accepted command: a part of the message, no copy. Any other answer hands over an empty part.
+// The command block that goes to the device with an accepted command: a part of the message, no copy. Any other
+// answer hands over an empty part.
 pub fn command_block(m: &[u8], a: Answer) -> &[u8]
     ensures { λ r. ⌜ CommandBlockContract (now (m .entry)) a (now r) ⌝ }
 {

@@ -1,5 +1,6 @@
-// A program to be read, for the stack figure: it makes each of the five calls at two places, so that the compiler keeps each as a function.
-// What it hands them comes from standard input, so that none is compiled for one value alone. tools/stack reads the built program.
+// A program to be read, for the stack figure: it makes each of the five calls at two places, so that the compiler
+// keeps each as a function. What it hands them comes from standard input, so that none is compiled for one value
+// alone. tools/stack reads the built program.
 use engine::calls::finish;
 use engine::calls::message;
 use engine::calls::setup;

@@ -1,4 +1,5 @@
--- What each call does to the table is its event's effect: by the path list, the next number and the weight of the live tasks. Assumes nothing.
+-- What each call does to the table is its event's effect: by the path list, the next number and the weight of the
+-- live tasks. Assumes nothing.
 use Prim.Native.Nat.{ℕ, _<_}
 use mathlib.Core.Path.{_≡_, refl, sym, ap, _∙_, subst}
 use mathlib.Core.Bool.{Bool, true, false, cond, _&&_}
@@ -20,7 +21,8 @@ use Rattle.task.specs.Selections.{picks, everyTask, named, numberedAs, runningA
 use Rattle.task.specs.declared.Kind.{Kind}
 use Rattle.task.specs.declared.Task.{Task}
 use Rattle.task.specs.declared.select.Selection.{Selection}
-use Rattle.task.proofs.Ways.{either-way, never, both, cond-ind}
+use Rattle.wire.proofs.Table.{cond-ind}
+use Rattle.task.proofs.Ways.{either-way, never, both}
 use Rattle.task.proofs.Places.{first-picks, first-before, first-is}
 use Rattle.task.proofs.Selecting.{meets, running-number, picks-every}
 use Rattle.table.specs.Tables.{pathAt, hasId, placeOf, pathOf, hasRoom, pickOf, newTask, accepted, endedBy, alteredAt, started, restarted, finished, resetOf, withPaths, withUnits}

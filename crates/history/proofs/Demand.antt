@@ -1,9 +1,10 @@
--- Demand 3, proved of the engine's contracts: whatever the calls handed back, the ledger of the calls and the last table agree. Assumes nothing.
+-- Demand 3, proved of the engine's contracts: whatever the calls handed back, the ledger of the calls and the last
+-- table agree. Assumes nothing.
 use Prim.Native.Nat.{ℕ, zero, suc, _<_, _^_}
 use mathlib.Core.Path.{_≡_, refl, sym, ap, subst, _∙_}
 use mathlib.Core.Bool.{Bool, true, false, cond}
 use mathlib.Core.List.{List, [], _∷_}
-use mathlib.Core.Logic.{_⊎_, inl, inr}
+use mathlib.Core.Logic.{inl, inr}
 use mathlib.Core.Option.{some, Option·none-ne-some}
 use native.Mathlib.Omega.{arith}
 use lib.ListN.{length}
@@ -18,8 +19,7 @@ use Rattle.table.specs.declared.Table.{Table}
 use Rattle.table.proofs.Keeps.{listed-at}
 use Rattle.table.proofs.Views.{at-empty, not-both}
 use Rattle.table.proofs.Weights.{setup-weighs}
-use Rattle.engine.specs.Calls.{heardOf, answeredTo, messageOf, startVerdict, startOf, finishVerdict, finishOf, totalResetOf, setupOf, replied}
-use Rattle.plan.specs.declared.Answer.{Answer}
+use Rattle.engine.specs.Calls.{heardOf, answeredTo, messageOf, startVerdict, startOf, finishVerdict, finishOf, totalResetOf, setupOf}
 use Rattle.plan.specs.declared.Answer.the-variants as answer
 use Rattle.engine.specs.declared.Outcome.{Outcome}
 use Rattle.engine.proofs.Keeps.{message-keeps, start-keeps, finish-keeps, reset-keeps, setup-is-good}

@@ -1,8 +1,10 @@
--- The seven wrong drives do not meet demand 3, each by a short trace, computed; and of the drives that echo those break it that go on answering, and those meet it that refuse. Assumes nothing.
-use Prim.Native.Nat.{ℕ, _≤_}
-use mathlib.Core.Path.{_≡_, refl, ap, subst, _∙_}
+-- The seven wrong drives do not meet demand 3, each by a short trace, computed; and of the drives that echo those
+-- break it that go on answering, and those meet it that refuse. Assumes nothing.
+use Prim.Native.Nat.{ℕ, _<_, _≤_, _^_}
+use mathlib.Core.Path.{_≡_, refl, sym, ap, subst, _∙_}
 use mathlib.Core.List.{List, [], _∷_}
 use native.Mathlib.Omega.{arith}
+use lib.Count.{ones}
 use Rattle.wire.specs.Codes
 use Rattle.wire.specs.declared.codes.Refusal.{Refusal}
 use Rattle.table.specs.declared.Table.{Table}
@@ -12,7 +14,7 @@ use Rattle.plan.specs.declared.Answer.the-variants as answer
 use Rattle.engine.specs.declared.Outcome.{Outcome}
 use Rattle.history.specs.Trace.{Event, Start, Finish, TotalReset, Told}
 use Rattle.history.specs.Demand.{Call, told, Chained, lastTable, Agrees, Demand3}
-use Rattle.history.specs.Drives.{Drive, callsOf, ByDrive, engine, endedByTag, goesByTag, numbersAnew, finishesAll, losesTasks, endsAtFinish, completesAll, inventsLive, WrongDrives, Remembering, callsBy, Meets, Echoes, Echoing}
+use Rattle.history.specs.Drives.{Drive, callsOf, ByDrive, engine, endedByTag, goesByTag, numbersAnew, finishesAll, losesTasks, endsAtFinish, completesAll, inventsLive, WrongDrives, Remembering, callsBy, Meets, Echoes, openAfter, Echoing}
 use Rattle.history.specs.TwoHosts.{hosts, fresh, buffer, command, confirmable, confirms, abort}
 use Rattle.history.proofs.Computing.{computing}
 use Rattle.history.proofs.Demand.{as-engine, refusing, WorksOrRefuses, works-or-refuses}
@@ -108,6 +110,26 @@ echo-breaks d E answers m =
     let z : _≡_ {A = ℕ} 2 1 = agreed .balance 0 in
     omega arith
 
+-- after the first call the table stays, so the number of live records does
+module _ (d : Remembering) (E : Echoes d) where
+  echo-last : (x : Told) (h : List Told) (t : Table) (evs : List Event) → lastTable t (callsBy d (x ∷ h) t evs) ≡ t
+  unfolding callsBy lastTable
+  echo-last x h t [] = refl
+  echo-last x h t (ev ∷ evs) = echo-last x _ (d (x ∷ h) ev t .table) evs ∙ E .echo x h ev t
+
+  first-last : (t : Table) (ev : Event) (evs : List Event) → lastTable t (callsBy d [] t (ev ∷ evs)) ≡ d [] ev t .table
+  unfolding callsBy lastTable
+  first-last t ev evs = echo-last _ [] (d [] ev t .table) evs
+
+  echo-miscounts : (ids : List ℕ) (attached first : ℕ) (ev : Event) (rest more : List Event) → first < 2 ^ 64
+      → (openAfter d ids (setupOf ids attached first .table) (ev ∷ rest) ≡ openAfter d ids (setupOf ids attached first .table) (ev ∷ more) → ⊥) → Meets d → ⊥
+  echo-miscounts ids attached first ev rest more l differ m =
+      let t : Table = setupOf ids attached first .table in
+      differ
+      (sym (m ids attached first (ev ∷ rest) l .live-count)
+      ∙ ap (λ (u : Table). ones (u .live)) (first-last t ev rest ∙ sym (first-last t ev more))
+      ∙ m ids attached first (ev ∷ more) l .live-count)
+
 module _ (d : Remembering) (E : Echoes d) (R : (x : Told) (h : List Told) (ev : Event) (t : Table) → (n : Refusal) × (d (x ∷ h) ev t .answer ≡ answer.Refused n)) where
   later : (x : Told) (h : List Told) (t : Table) (evs : List Event) → Chained WorksOrRefuses t (callsBy d (x ∷ h) t evs)
   unfolding callsBy
@@ -126,4 +148,4 @@ module _ (d : Remembering) (E : Echoes d) (R : (x : Told) (h : List Told) (ev : 
       works-or-refuses ids attached first (setupOf ids attached first) (callsBy d [] (setupOf ids attached first .table) evs) l refl (from-first _ evs)
 
 pub echoing : Echoing
-echoing = record { breaks = echo-breaks; meets = echo-meets }
+echoing = record { breaks = echo-breaks; miscounts = echo-miscounts; meets = echo-meets }

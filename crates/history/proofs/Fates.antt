@@ -1,4 +1,5 @@
--- What an event comes to for one command, and for its entry in the ledger: it stays, goes on in another way, or is ended. Assumes nothing.
+-- What an event comes to for one command, and for its entry in the ledger: it stays, goes on in another way, or is
+-- ended. Assumes nothing.
 use Prim.Native.Nat.{ℕ}
 use mathlib.Core.Path.{_≡_, refl}
 use mathlib.Core.Bool.{true, _||_}
@@ -10,13 +11,14 @@ use Rattle.task.specs.Selections.{picks}
 use Rattle.task.specs.declared.Phase.{Phase}
 use Rattle.task.specs.declared.Phase.the-variants.{Waiting, Running, Unconfirmed}
 use Rattle.task.specs.declared.Task.{Task}
-use Rattle.task.proofs.Ways.{cond-ind}
+use Rattle.wire.proofs.Table.{cond-ind}
 use Rattle.history.specs.Trace.{Label, byStatus, countsAsStatus, Effect, Nothing, Accepts, Starts, Finishes, Restarts, Ends, Fate, stays, becomes, ended, fateOf}
 use Rattle.history.specs.Ledger.{Entry, isOpen, newEntry, afterFate, afterEffect, newEntries}
 
 -- ---- the fate of a command
 
--- a fact about a command's fate, from each sort of fate: what goes on is the command still, save its phase, bytes and offset
+-- a fact about a command's fate, from each sort of fate: what goes on is the command still, save its phase, bytes and
+-- offset
 fate-ways : (P : Fate → Type 0) (effect : Effect) (a : Task) → P stays → ((phase : Phase) (transferred offset : ℕ) → P (becomes (inPhase phase transferred offset a)))
     → ((how : Label) → P (ended how)) → P (fateOf effect a)
 unfolding fateOf

@@ -1,5 +1,5 @@
--- What ties a ledger to a table, and that an effect keeps the tie. The tie compares weights: open entries and live records weigh the same, whatever the weight.
--- Assumes nothing.
+-- What ties a ledger to a table, and that an effect keeps the tie. The tie compares weights: open entries and live
+-- records weigh the same, whatever the weight. Assumes nothing.
 use Prim.Native.Nat.{ℕ, _+_, _-_, _<_, _≤_}
 use mathlib.Core.Path.{_≡_, refl, ap, ap₂, _∙_}
 use mathlib.Core.Bool.{Bool, true, false, cond, not, _&&_}
@@ -12,7 +12,8 @@ use lib.Dec.{eqb}
 use borrow.Author.Tests.{eq-eqb, eqb-true}
 use Rattle.task.specs.Index.{one}
 use Rattle.task.specs.declared.Task.{Task}
-use Rattle.task.proofs.Ways.{either-way, both, cond-ind}
+use Rattle.wire.proofs.Table.{cond-ind}
+use Rattle.task.proofs.Ways.{either-way, both}
 use Rattle.task.proofs.Places.{lt-or-le}
 use Rattle.table.specs.Tables.{pathAt}
 use Rattle.table.specs.Sound.{Shaped}
@@ -140,7 +141,8 @@ noted-total f n effect l =
       new-entries-ways (λ (x : Option Task) (m : List Entry). total f m ≡ weightAt (λ a. f (newEntry n a)) x) n effect refl (λ a _. omega arith),
     )
 
--- s commands have the number m, and none has the next number or a later one; then one more comes, under the next number
+-- s commands have the number m, and none has the next number or a later one; then one more comes, under the next
+-- number
 module _ (next m s : ℕ) where
   abbrev numbered : Option Task → ℕ
   numbered x = weightAt (λ a. one (eqb (a .arrival) m)) x

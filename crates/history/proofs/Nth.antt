@@ -1,4 +1,5 @@
--- Places of a list: what stands at a place of a list that is mapped or goes on, and what holds of each element. Assumes nothing.
+-- Places of a list: what stands at a place of a list that is mapped or goes on, and what holds of each element.
+-- Assumes nothing.
 use Prim.Native.Nat.{ℕ, zero, suc, _<_}
 use mathlib.Core.Path.{_≡_, refl, subst}
 use mathlib.Core.List.{List, [], _∷_, _++_, map}

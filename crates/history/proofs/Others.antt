@@ -1,4 +1,5 @@
--- A message that is not CLEAR TASK SET, LOGICAL UNIT RESET or TARGET RESET leaves the live records of other paths as they are. Assumes nothing.
+-- A message that is not CLEAR TASK SET, LOGICAL UNIT RESET or TARGET RESET leaves the live records of other paths as
+-- they are. Assumes nothing.
 use Prim.Native.Nat.{ℕ, _<_}
 use mathlib.Core.Path.{_≡_, refl, ap, _∙_}
 use mathlib.Core.Bool.{Bool, true, false}
@@ -15,7 +16,8 @@ use Rattle.task.specs.declared.Kind.{Kind}
 use Rattle.task.specs.declared.Task.{Task}
 use Rattle.task.specs.declared.scan.Pick.{Pick}
 use Rattle.task.specs.declared.select.Selection.{Selection}
-use Rattle.task.proofs.Ways.{either-way, cond-ind, both}
+use Rattle.wire.proofs.Table.{cond-ind}
+use Rattle.task.proofs.Ways.{either-way, both}
 use Rattle.table.specs.Tables.{pathOf, pickOf, hasRoom, accepted, endedBy}
 use Rattle.table.specs.Sound.{Shaped}
 use Rattle.table.specs.View.{at}

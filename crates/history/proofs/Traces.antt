@@ -1,5 +1,5 @@
--- What holds of the ledger of any trace, with no table and no contract: each entry and each ending has its event, each accepted command has its entry,
--- and whose commands a message ends. Assumes nothing.
+-- What holds of the ledger of any trace, with no table and no contract: each entry and each ending has its event,
+-- each accepted command has its entry, and whose commands a message ends. Assumes nothing.
 use Prim.Native.Nat.{ℕ, zero, suc, _+_, _<_}
 use mathlib.Core.Path.{_≡_, refl, sym, ap, subst, _∙_}
 use mathlib.Core.Bool.{Bool, true, false}
@@ -24,7 +24,8 @@ use Rattle.task.specs.Selections.{picks, numberedAs}
 use Rattle.task.specs.declared.Kind.{Kind}
 use Rattle.task.specs.declared.Task.{Task}
 use Rattle.task.specs.declared.select.Selection.{Selection}
-use Rattle.task.proofs.Ways.{never, cond-ind, both}
+use Rattle.wire.proofs.Table.{cond-ind}
+use Rattle.task.proofs.Ways.{never, both}
 use Rattle.task.proofs.Places.{below-suc}
 use Rattle.task.proofs.Selecting.{meets}
 use Rattle.rules.specs.Management.{endsOf}

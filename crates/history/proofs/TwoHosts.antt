@@ -1,4 +1,5 @@
--- The ledgers of two hosts that count their tags alike: computed, and by demand 3 the last tables agree with them. Assumes nothing.
+-- The ledgers of two hosts that count their tags alike: computed, and by demand 3 the last tables agree with them.
+-- Assumes nothing.
 use mathlib.Core.Path.{refl}
 use native.Mathlib.Omega.{arith}
 use Rattle.history.specs.TwoHosts.{hosts, twoHosts, TwoHostsLedger, confirmedTwoHosts, ConfirmedLedger}

@@ -1,4 +1,5 @@
--- Demand 3. Take any calls after one setup, each given the table that the last one handed back; work out the ledger from calls and answers alone; then ledger and table agree.
+-- Demand 3. Take any calls after one setup, each given the table that the last one handed back; work out the ledger
+-- from calls and answers alone; then ledger and table agree.
 use Prim.Native.Nat.{ℕ, _+_, _<_, _≤_, _^_}
 use mathlib.Core.Path.{_≡_}
 use mathlib.Core.Bool.{Bool, true, false}
@@ -38,7 +39,8 @@ pub record Call : Type 0 where
 abbrev pub told : List Call → List Told
 told cs = map (λ (c : Call). record { event = c .event; answer = c .outcome .answer }) cs
 
--- what a call promises for an event and the table handed in: a condition on what it hands back and leaves in the buffer
+-- what a call promises for an event and the table handed in: a condition on what it hands back and leaves in the
+-- buffer
 abbrev pub Contract : Type 1
 Contract = Event → Table → Outcome → List ℕ → Type 0
 
@@ -75,7 +77,8 @@ pub record Came (ids : List ℕ) (h : List Told) (e : Entry) : Type 0 where
   pub there : eventNumbered h (e .accepted) ≡ some cause
   pub effect : effectTold ids cause ≡ Accepts (waiting (e .task))
 
--- an ending's event is one of the trace, comes after the acceptance, and by its message or event and its answer it ends the command
+-- an ending's event is one of the trace, comes after the acceptance, and by its message or event and its answer it
+-- ends the command
 pub record Caused (ids : List ℕ) (h : List Told) (e : Entry) (x : Ending) : Type 0 where
   pub after : e .accepted < x .event
   pub cause : Told
@@ -87,7 +90,8 @@ abbrev pub accountedFor : ℕ → List Entry → Table → ℕ
 accountedFor p l t = endedFrom countsAsStatus p l + endedFrom countsAsManagement p l + endedFrom countsAsReset p l + liveOf p t
 
 pub record Agrees (ids : List ℕ) (h : List Told) (t : Table) : Type 0 where
-  -- 1. one live record for each open entry, with its path, tag, unit, kind and arrival number and all else, and no other live record
+  -- 1. one live record for each open entry, with its path, tag, unit, kind and arrival number and all else, and no
+  -- other live record
   pub held : (k : ℕ) (e : Entry) → EntryAt ids h k e → isOpen e ≡ true → (i : ℕ) × (i < 64) × (at t i ≡ some (e .task))
   pub no-other : (i : ℕ) (a : Task) → i < 64 → at t i ≡ some a → (k : ℕ) × (e : Entry) × EntryAt ids h k e × (isOpen e ≡ true) × (e .task ≡ a)
   --    an arrival number names one live record and one accepted command, open or ended
@@ -95,13 +99,15 @@ pub record Agrees (ids : List ℕ) (h : List Told) (t : Table) : Type 0 where
   pub one-entry : (k l : ℕ) (e f : Entry) → EntryAt ids h k e → EntryAt ids h l f → e .task .arrival ≡ f .task .arrival → k ≡ l
   --    the ones of the live map are the open entries
   pub live-count : ones (t .live) ≡ countOf isOpen (ledger ids h)
-  -- 2. no command is ended twice; each entry and each ending has its event in the trace, and each command that the trace accepts has its entry
+  -- 2. no command is ended twice; each entry and each ending has its event in the trace, and each command that the
+  -- trace accepts has its entry
   pub once : (k : ℕ) (e : Entry) → EntryAt ids h k e → timesEnded e ≤ 1
   pub came : (k : ℕ) (e : Entry) → EntryAt ids h k e → Came ids h e
   pub caused : (k : ℕ) (e : Entry) (x : Ending) → EntryAt ids h k e → Has x (e .endings) → Caused ids h e x
   pub entered : (n : ℕ) (x : Told) (a : Task) → eventNumbered h n ≡ some x → effectTold ids x ≡ Accepts a
       → (k : ℕ) × (e : Entry) × EntryAt ids h k e × (e .accepted ≡ n) × (waiting (e .task) ≡ a)
-  -- 3. for the path at each place of the list: accepted = ended by status + ended by management + ended by reset + live records
+  -- 3. for the path at each place of the list: accepted = ended by status + ended by management + ended by reset +
+  -- live records
   pub balance : (p : ℕ) → acceptedFrom ids p h ≡ accountedFor p (ledger ids h) t
 
 -- ---- the demand on the contracts of the four calls after setup: every setup of the engine, and whatever the calls then handed back, given only their contracts

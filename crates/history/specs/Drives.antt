@@ -1,5 +1,6 @@
--- Drives: the engine's own calls; seven that differ from it in one thing and break demand 3 on a short trace; those that work at the first call and afterwards only echo;
--- and one that refuses every call, which demand 3 alone does not refuse.
+-- Drives: the engine's own calls; seven that differ from it in one thing and break demand 3 on a short trace; those
+-- that work at the first call and afterwards only echo; and one that refuses every call, which demand 3 alone does
+-- not refuse.
 use Prim.Native.Nat.{ℕ, zero, suc, _-_, _<_, _^_}
 use mathlib.Core.Path.{_≡_}
 use mathlib.Core.Bool.{cond}
@@ -31,6 +32,7 @@ use Rattle.plan.specs.declared.Answer.{Answer}
 use Rattle.plan.specs.declared.Answer.the-variants as answer
 use Rattle.engine.specs.declared.Outcome.{Outcome}
 use Rattle.history.specs.Trace.{Event, Message, Start, Finish, TotalReset, Told}
+use Rattle.history.specs.Ledger.{isOpen, ledger, countOf}
 use Rattle.history.specs.Demand.{Call, told, Contract, Engine, Chained, lastTable, Agrees, Demand3}
 
 -- a drive: what it hands back for an event and the table handed in
@@ -182,9 +184,17 @@ pub record Echoes (d : Remembering) : Type 0 where
   pub works : (ev : Event) (t : Table) → d [] ev t ≡ engine ev t
   pub echo : (x : Told) (h : List Told) (ev : Event) (t : Table) → d (x ∷ h) ev t .table ≡ t
 
--- those that go on answering as demand 2 has it for the table handed in break demand 3; those that refuse every later call meet it
+-- how many commands are open in the ledger of its calls
+abbrev pub openAfter : Remembering → List ℕ → Table → List Event → ℕ
+openAfter d ids t evs = countOf isOpen (ledger ids (told (callsBy d [] t evs)))
+
+-- those that go on answering as demand 2 has it for the table handed in break demand 3; and so does every one by whose
+-- answers the number of open commands changes after the first call, since the number of live records does not. Those
+-- that refuse every later call meet it
 pub record Echoing : Type 0 where
   pub breaks : (d : Remembering) → Echoes d → ((x : Told) (h : List Told) (ev : Event) (t : Table) → d (x ∷ h) ev t .answer ≡ engine ev t .answer) → Meets d → ⊥
+  pub miscounts : (d : Remembering) → Echoes d → (ids : List ℕ) (attached first : ℕ) (ev : Event) (rest more : List Event) → first < 2 ^ 64
+      → (openAfter d ids (setupOf ids attached first .table) (ev ∷ rest) ≡ openAfter d ids (setupOf ids attached first .table) (ev ∷ more) → ⊥) → Meets d → ⊥
   pub meets : (d : Remembering) → Echoes d
       → ((x : Told) (h : List Told) (ev : Event) (t : Table) → (n : Refusal) × (d (x ∷ h) ev t .answer ≡ answer.Refused n)) → Meets d
 

@@ -1,4 +1,5 @@
--- The ledger of a trace: an entry for each accepted command, with the events that accepted and ended it. No table is looked at.
+-- The ledger of a trace: an entry for each accepted command, with the events that accepted and ended it. No table is
+-- looked at.
 use Prim.Native.Nat.{ℕ, suc, _+_}
 use mathlib.Core.Path.{_≡_}
 use mathlib.Core.Bool.{Bool, true, false, cond, _||_}
@@ -15,8 +16,9 @@ pub record Ending : Type 0 where
   pub event : ℕ
   pub how : Label
 
--- an accepted command: its path, tag, unit, kind and arrival number, whether it had CONFIRM, whether it waits, runs or waits to be confirmed, and after how many bytes or
--- from which offset; the number of the event that accepted it; its endings, oldest first
+-- an accepted command: its path, tag, unit, kind and arrival number, whether it had CONFIRM, whether it waits, runs
+-- or waits to be confirmed, and after how many bytes or from which offset; the number of the event that accepted it;
+-- its endings, oldest first
 pub record Entry : Type 0 where
   pub task : Task
   pub accepted : ℕ
@@ -39,9 +41,10 @@ timesEnded e = length (e .endings)
 abbrev pub newEntry : ℕ → Task → Entry
 newEntry n a = record { task = a; accepted = n; endings = [] }
 
--- What a fate does to an entry. Only an open command goes on in another way, and only an open one is ended by management or reset. A finish or a confirmation names one command
--- by its arrival number, and what it ends by status is an ending even where the command was ended before, whether it ran then or still waited: that this never happens is not
--- built into the ledger, and the theorem says it.
+-- What a fate does to an entry. Only an open command goes on in another way, and only an open one is ended by
+-- management or reset. A finish or a confirmation names one command by its arrival number, and what it ends by status
+-- is an ending even where the command was ended before, whether it ran then or still waited: that this never happens
+-- is not built into the ledger, and the theorem says it.
 abbrev pub afterFate : ℕ → Fate → Entry → Entry
 afterFate n stays e = e
 afterFate n (becomes a) e = cond (isOpen e) (record { task = a; accepted = e .accepted; endings = e .endings }) e
@@ -102,6 +105,7 @@ acceptsFrom p (Ends s how) = false
 abbrev pub acceptedFrom : List ℕ → ℕ → List Told → ℕ
 acceptedFrom ids p h = countOf (λ x. acceptsFrom p (effectTold ids x)) h
 
--- how many endings that count the ledger has for commands from the path at p: a command that is ended twice counts twice
+-- how many endings that count the ledger has for commands from the path at p: a command that is ended twice counts
+-- twice
 abbrev pub endedFrom : (Label → Bool) → ℕ → List Entry → ℕ
 endedFrom counts p l = total (λ e. cond (isFrom p (e .task)) (countOf (λ x. counts (x .how)) (e .endings)) 0) l

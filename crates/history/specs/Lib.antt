@@ -1,4 +1,5 @@
--- Demand 3: what a trace shows, the ledger worked out from it, what the table at its end then holds, and drives that break it.
+-- Demand 3: what a trace shows, the ledger worked out from it, what the table at its end then holds, and drives that
+-- break it.
 pub mod Trace
 pub mod Ledger
 pub mod Demand

@@ -1,5 +1,5 @@
--- What a trace shows: the events in their order, each with what was asked and what was answered, and what an event so answered does to the commands.
--- No table is looked at.
+-- What a trace shows: the events in their order, each with what was asked and what was answered, and what an event so
+-- answered does to the commands. No table is looked at.
 use Prim.Native.Nat.{ℕ, zero, suc}
 use mathlib.Core.Bool.{Bool, true, false, cond}
 use mathlib.Core.List.{List, [], _∷_}
@@ -138,8 +138,8 @@ orderReplied p o (some (reply.Invalid t)) = Nothing
 abbrev pub orderEffect : ℕ → Order → Answer → Effect
 orderEffect p o a = orderReplied p o (replyOf a)
 
--- CONFIRM STATUS from the path at p names its command by the tag and the number in the answer: with COMPLETE set `confirmed` ends it,
--- with COMPLETE clear `restarted` has it wait again at the offset
+-- CONFIRM STATUS from the path at p names its command by the tag and the number in the answer: with COMPLETE set
+-- `confirmed` ends it, with COMPLETE clear `restarted` has it wait again at the offset
 abbrev pub confirmEffect : ℕ → ℕ → ℕ → Bool → Answer → Effect
 confirmEffect p tag offset complete answer.Ready = Nothing
 confirmEffect p tag offset complete (answer.Accepted n) = Nothing
@@ -167,7 +167,8 @@ startEffect (answer.Restarted n) = Nothing
 startEffect answer.Reset = Nothing
 startEffect (answer.Refused n) = Nothing
 
--- a finish that is answered by a STATUS finishes the command with the number that it names. The engine answers so where that command runs; the trace takes the STATUS at its word
+-- a finish that is answered by a STATUS finishes the command with the number that it names. The engine answers so
+-- where that command runs; the trace takes the STATUS at its word
 abbrev pub finishReplied : ℕ → ℕ → Option Reply → Effect
 finishReplied arrival transferred none = Nothing
 finishReplied arrival transferred (some (reply.Response t code)) = Nothing

@@ -1,4 +1,5 @@
--- Two hosts that count their tags alike: the transcripts examples/two-hosts and examples/confirmed-two-hosts as events, and the ledgers of the engine's calls on them.
+-- Two hosts that count their tags alike: the transcripts examples/two-hosts and examples/confirmed-two-hosts as
+-- events, and the ledgers of the engine's calls on them.
 use Prim.Native.Nat.{ℕ}
 use mathlib.Core.Path.{_≡_}
 use mathlib.Core.Bool.{Bool, true, false}
@@ -27,7 +28,8 @@ fresh = setupOf hosts 0x01 1 .table
 abbrev pub buffer : List ℕ
 buffer = replicate 64 0
 
--- a command for unit 0 from host 1 or 2 (ids 0101h and 0202h) with a tag and byte 10: a SIMPLE one, and one with CONFIRM
+-- a command for unit 0 from host 1 or 2 (ids 0101h and 0202h) with a tag and byte 10: a SIMPLE one, and one with
+-- CONFIRM
 abbrev pub sends : ℕ → ℕ → ℕ → List ℕ → Event
 sends flags host tag cdb = Message (0x83 ∷ 0x10 ∷ 0 ∷ tag ∷ 0 ∷ 0 ∷ host ∷ host ∷ 0 ∷ 0 ∷ flags ∷ 0 ∷ 0 ∷ 0 ∷ 0 ∷ 0 ∷ cdb) buffer
 
@@ -54,7 +56,8 @@ write = 0x0a ∷ 0 ∷ 0 ∷ 0x10 ∷ 1 ∷ 0 ∷ []
 abbrev pub abort : ℕ → ℕ → ℕ → Event
 abort host tag tag2 = Message (0x83 ∷ 0x30 ∷ 0 ∷ tag ∷ 0 ∷ 0 ∷ host ∷ host ∷ 0 ∷ tag2 ∷ []) buffer
 
--- both learn of the reset; both write under tag 0001h; host 1 aborts its write, and once more; unit 0 starts; command 2 is finished
+-- both learn of the reset; both write under tag 0001h; host 1 aborts its write, and once more; unit 0 starts; command
+-- 2 is finished
 unfoldable pub twoHosts : List Event
 twoHosts =
     command 1 0 testUnit ∷ command 2 0 testUnit ∷ command 1 1 write ∷ command 2 1 write ∷ abort 1 2 1 ∷ abort 1 3 1 ∷ Start 0 ∷ Finish 2 Codes.good Codes.noSense 0 buffer ∷ []
@@ -80,19 +83,22 @@ pub record Ledgered (evs : List Event) (entries : List Entry) : Type 0 where
   pub entered : ledger hosts (told (callsOf engine fresh evs)) ≡ entries
   pub agrees : Agrees hosts (told (callsOf engine fresh evs)) (lastTable fresh (callsOf engine fresh evs))
 
--- host 1's write was accepted by event 3 and ended by event 5, its own abort; host 2's was accepted by event 4 and ended by event 8, its status
+-- host 1's write was accepted by event 3 and ended by event 5, its own abort; host 2's was accepted by event 4 and
+-- ended by event 8, its status
 abbrev pub TwoHostsLedger : Type 0
 TwoHostsLedger =
     Ledgered twoHosts
     (entry (written 1 0 Waiting false 0) 3 5 (byOrder (AbortTask 1)) ∷ entry (written 2 1 Running false 0) 4 8 byStatus ∷ [])
 
--- both write with CONFIRM under tag 0001h; host 1's is finished after 512 bytes; host 2 aborts its own, and once more, and would confirm; host 1 confirms
+-- both write with CONFIRM under tag 0001h; host 1's is finished after 512 bytes; host 2 aborts its own, and once
+-- more, and would confirm; host 1 confirms
 unfoldable pub confirmedTwoHosts : List Event
 confirmedTwoHosts =
     command 1 0 testUnit ∷ command 2 0 testUnit ∷ confirmable 1 1 write ∷ confirmable 2 1 write ∷ Start 0 ∷ Finish 1 Codes.good Codes.noSense 512 buffer
     ∷ abort 2 2 1 ∷ abort 2 3 1 ∷ confirm 2 1 ∷ confirm 1 1 ∷ []
 
--- host 1's write was accepted by event 3 and ended by event 10, its confirmation, not by event 6, its finish; host 2's was accepted by event 4 and ended by event 7, its own abort
+-- host 1's write was accepted by event 3 and ended by event 10, its confirmation, not by event 6, its finish; host
+-- 2's was accepted by event 4 and ended by event 7, its own abort
 abbrev pub ConfirmedLedger : Type 0
 ConfirmedLedger =
     Ledgered confirmedTwoHosts

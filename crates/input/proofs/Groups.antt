@@ -11,7 +11,7 @@ use native.Mathlib.Nat.{pow-suc, div-lt-iff-lt-mul}
 use native.Mathlib.Numerals.{add-one}
 use native.Mathlib.Omega.{arith}
 use borrow.Author.Tests.{ltb-true, ltb-false, eqb-false, ne-eqb, lt-ltb, le-ltb, lt-leb}
-use Rattle.task.proofs.Ways.{cond-ind, neither}
+use Rattle.wire.proofs.Table.{cond-ind, neither}
 use Rattle.input.specs.Numbers.{withGroup, numberIn, groupsIn}
 use Rattle.input.specs.declared.number.Number.{Number}
 use Rattle.input.specs.declared.number.Number.the-variants.{Value, Bad}

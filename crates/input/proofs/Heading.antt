@@ -12,7 +12,7 @@ use native.Mathlib.Numerals.{add-one}
 use native.Mathlib.Omega.{arith}
 use borrow.Author.Tests.{ltb-true, ltb-false, lt-ltb}
 use Rattle.table.specs.Setup.{badList}
-use Rattle.task.proofs.Ways.{cond-ind}
+use Rattle.wire.proofs.Table.{cond-ind}
 use Rattle.input.specs.Numbers.{numberAt, byteAt, idAt, given}
 use Rattle.input.specs.Header.{Heading, malformed, idsThen, headingOf}
 use Rattle.input.specs.Reading.{noIds, keptAt, leastOfNine, idsFrom, afterIds, headerOf}

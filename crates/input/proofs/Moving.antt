@@ -7,7 +7,7 @@ use lib.ListN.{length, getD}
 use lib.Dec.{ltb, leb, eqb}
 use native.Mathlib.Nat.{le-refl, le-of-lt}
 use native.Mathlib.Omega.{arith}
-use Rattle.task.proofs.Ways.{cond-ind}
+use Rattle.wire.proofs.Table.{cond-ind}
 use Rattle.input.specs.Numbers.{withGroup, numberIn, numberAt, byteAt, below, given}
 use Rattle.input.specs.Events.{messageAt, startAt, finishAt, byKind, eventAt}
 use Rattle.input.specs.declared.number.Number.{Number}

@@ -8,7 +8,7 @@ use lib.Dec.{ltb}
 use native.Mathlib.Nat.{mod-eq-of-lt}
 use native.Mathlib.Omega.{arith}
 use borrow.Author.Tests.{ltb-true, eq-eqb, ne-eqb, lt-ltb, le-ltb, le-leb, lt-leb}
-use Rattle.task.proofs.Ways.{cond-ind}
+use Rattle.wire.proofs.Table.{cond-ind}
 use Rattle.input.specs.Numbers.{withGroup, numberIn, below, given}
 use Rattle.input.specs.declared.number.Number.{Number}
 use Rattle.input.specs.declared.number.Number.the-variants.{Value, Bad}

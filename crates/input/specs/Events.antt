@@ -1,4 +1,5 @@
--- The events of a transcript. Unknown events, a field over 8 bits where a byte is meant, or a cut event are malformed.
+-- The events of a transcript. Unknown events, a field over 8 bits where a byte is meant, or a cut event are
+-- malformed.
 use Prim.Native.Nat.{ℕ, _+_}
 use mathlib.Core.List.{List}
 use mathlib.Core.Bool.{cond}

@@ -1,4 +1,5 @@
--- The header of a transcript: path count (a byte), ids, mask, first arrival number. It is read whole; an id over 32 bits is malformed.
+-- The header of a transcript: path count (a byte), ids, mask, first arrival number. It is read whole; an id over 32
+-- bits is malformed.
 use Prim.Native.Nat.{ℕ, zero, suc}
 use mathlib.Core.List.{List, [], _∷_}
 use Rattle.input.specs.Numbers.{numberAt, byteAt, idAt, given}

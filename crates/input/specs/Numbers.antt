@@ -1,4 +1,5 @@
--- Numbers in groups of seven bits: low group first, top bit set when another follows, ten groups at most, shortest form only, below 2^64.
+-- Numbers in groups of seven bits: low group first, top bit set when another follows, ten groups at most, shortest
+-- form only, below 2^64.
 use Prim.Native.Nat.{ℕ, zero, suc, _+_, _-_, _*_, _/_, _%_, _^_}
 use mathlib.Core.List.{List, [], _∷_}
 use mathlib.Core.Bool.{cond, _||_}
@@ -7,7 +8,8 @@ use lib.Dec.{ltb, leb, eqb}
 use Rattle.input.specs.declared.number.Number.{Number}
 use Rattle.input.specs.declared.number.Number.the-variants.{Value, Bad}
 
--- a group x with another after it, and the number that starts there: that number is not 0, since the form is the shortest, and the whole is below 2^64
+-- a group x with another after it, and the number that starts there: that number is not 0, since the form is the
+-- shortest, and the whole is below 2^64
 unfoldable pub withGroup : ℕ → Number → Number
 withGroup x Bad = Bad
 withGroup x (Value high next) = cond (eqb high 0 || leb (2 ^ 64) (x - 128 + high * 128)) Bad (Value (x - 128 + high * 128) next)

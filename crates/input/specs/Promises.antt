@@ -2,7 +2,7 @@
 use Prim.Native.Nat.{ℕ, _+_, _-_, _^_, _≤_, _<_}
 use mathlib.Core.Path.{_≡_}
 use mathlib.Core.Bool.{true, false}
-use mathlib.Core.List.{List, _++_}
+use mathlib.Core.List.{List, [], _∷_, _++_}
 use lib.ListN.{length, getD, take, drop}
 use Rattle.table.specs.Setup.{badList}
 use Rattle.input.specs.Numbers.{numberAt, groupsOf}
@@ -27,6 +27,10 @@ abbrev pub OneFormIsTaken : Type 0
 OneFormIsTaken =
     (s : List ℕ) → ((i : ℕ) → getD s i 0 < 256) → (at n next : ℕ) → numberAt s at ≡ Value n next
     → take (next - at) (drop at s) ≡ groupsOf n
+
+-- page 01's example: 300 is AC 02, and AC 02 is read as 300
+abbrev pub ThreeHundred : Type 0
+ThreeHundred = (groupsOf 300 ≡ 0xac ∷ 0x02 ∷ []) × (numberAt (0xac ∷ 0x02 ∷ []) 0 ≡ Value 300 2)
 
 -- ---- the header
 

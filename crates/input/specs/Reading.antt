@@ -1,4 +1,5 @@
--- How a header is read, keeping nine ids. This follows the code: believe Header.antt, which says the same, as Promises.antt says.
+-- How a header is read, keeping nine ids. This follows the code: believe Header.antt, which says the same, as
+-- Promises.antt says.
 use Prim.Native.Nat.{ℕ, zero, suc, _+_}
 use mathlib.Core.Bool.{true, false, cond}
 use mathlib.Core.List.{List}

@@ -1,4 +1,5 @@
--- Each public function's contract determines its answer: two answers that are each what it says are equal. Proved in proofs/Unique.antt.
+-- Each public function's contract determines its answer: two answers that are each what it says are equal. Proved in
+-- proofs/Unique.antt.
 use Prim.Native.Nat.{ℕ}
 use mathlib.Core.List.{List}
 use Rattle.wire.specs.Unique.{One}

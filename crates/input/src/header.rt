@@ -7,7 +7,8 @@ use crate::number::Number;
 use crate::number::byte_at;
 use crate::number::number_at;
 
-// Ids that were read: the first nine of them, the place after the last, and whether all were well formed. A setup takes eight: with nine it is refused.
+// Ids that were read: the first nine of them, the place after the last, and whether all were well formed. A setup
+// takes eight: with nine it is refused.
 pub struct Ids {
     pub next: usize,
     pub ids: [u32; 9],

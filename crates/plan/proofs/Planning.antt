@@ -1,4 +1,5 @@
--- What a message asks, and the plan for a ruling, an order, a confirmation and what is asked: a lemma for each way out of the functions of `plan`. Assumes nothing.
+-- What a message asks, and the plan for a ruling, an order, a confirmation and what is asked: a lemma for each way
+-- out of the functions of `plan`. Assumes nothing.
 use Prim.Native.Nat.{ℕ, _<_, _≤_}
 use mathlib.Core.Path.{_≡_, _∙_}
 use mathlib.Core.Bool.{Bool, true, false, not}

@@ -1,4 +1,5 @@
--- The kinds by QUEUE CNTL's numbers, computed. An order's answer is its return code, carried out or not; and which plans go by the other paths on the unit. Assumes nothing.
+-- The kinds by QUEUE CNTL's numbers, computed. An order's answer is its return code, carried out or not; and which
+-- plans go by the other paths on the unit. Assumes nothing.
 use Prim.Native.Nat.{ℕ, zero, suc}
 use mathlib.Core.Path.{_≡_, refl}
 use mathlib.Core.Bool.{false}
@@ -8,7 +9,8 @@ use lib.Dec.{eqb}
 use Rattle.wire.specs.Codes
 use Rattle.reply.specs.declared.Reply.the-variants as reply
 use Rattle.task.specs.declared.scan.Pick.{Pick}
-use Rattle.task.proofs.Ways.{cond-ind, never}
+use Rattle.wire.proofs.Table.{cond-ind}
+use Rattle.task.proofs.Ways.{never}
 use Rattle.rules.specs.Management.{orderCode}
 use Rattle.rules.specs.declared.facts.Facts.{Facts}
 use Rattle.rules.specs.declared.facts.Lookup.{Lookup}

@@ -1,4 +1,5 @@
--- The plan of an answer: what a message asks, what is answered, and what that does to paths and units (the change) and to the records.
+-- The plan of an answer: what a message asks, what is answered, and what that does to paths and units (the change)
+-- and to the records.
 use Prim.Native.Nat.{ℕ}
 use mathlib.Core.Bool.{Bool, true, false, cond, not, _&&_}
 use mathlib.Core.List.{List}
@@ -58,7 +59,8 @@ askedOf (message.ClearAca tag path lun) = By path tag (Manage (order.ClearAca lu
 askedOf (message.UnitReset tag path lun) = By path tag (Manage (order.UnitReset lun))
 askedOf (message.Refused n) = Unread n
 
--- the tag and the unit that are asked about: the message's own, or those that an order names; 0 where there is no unit
+-- the tag and the unit that are asked about: the message's own, or those that an order names; 0 where there is no
+-- unit
 abbrev pub tagAsked : ℕ → Request → ℕ
 tagAsked tag (Command lun flags) = tag
 tagAsked tag (Manage o) = tagOf o
@@ -120,8 +122,9 @@ orderPlan f others p tag m o =
 abbrev pub isAwaited : Pick → Bool
 isAwaited own = own .found && isUnconfirmed (own .task .phase)
 
--- CONFIRM STATUS: a reserved bit set gives FFh; no task that waits to be confirmed gives 15. COMPLETE set: the task is ended, BYTE OFFSET is not looked at.
--- COMPLETE clear: an offset past the bytes transferred gives FFh; else the task waits again, to start there. Neither the mark nor the attention of the sender is looked at
+-- CONFIRM STATUS: a reserved bit set gives FFh; no task that waits to be confirmed gives 15. COMPLETE set: the task
+-- is ended, BYTE OFFSET is not looked at. COMPLETE clear: an offset past the bytes transferred gives FFh; else the
+-- task waits again, to start there. Neither the mark nor the attention of the sender is looked at
 unfoldable pub confirmPlan : Pick → ℕ → ℕ → List ℕ → ℕ → Bool → Plan
 confirmPlan own p tag m offset complete =
     cond (reservedSet m) (planned (answer.Reply (reply.Response tag Codes.invalidField)) change.Nothing records.Nothing)
@@ -137,7 +140,8 @@ planOf s next p tag m (Confirm offset complete) = confirmPlan (s .own) p tag m o
 
 -- ---- what a change does to paths and units
 
--- a command's answer and the sender's mark and attention: the mark is cleared once rule 2 is passed; attention that was reported becomes none
+-- a command's answer and the sender's mark and attention: the mark is cleared once rule 2 is passed; attention that
+-- was reported becomes none
 abbrev pub senderAfter : List path.Path → ℕ → SenderChange → List path.Path
 senderAfter paths p Stays = paths
 senderAfter paths p SetMark = markedIn paths p true

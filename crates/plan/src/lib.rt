@@ -271,8 +271,8 @@ fn is_awaited(p: Pick) -> bool
     }
 }
 
-// The plan for CONFIRM STATUS of the path at p, whose task with the tag is its own: it is ended, or it waits again where the offset lies within the bytes
-// transferred.
+// The plan for CONFIRM STATUS of the path at p, whose task with the tag is its own: it is ended, or it waits again
+// where the offset lies within the bytes transferred.
 fn plan_confirm(own: Pick, p: u8, tag: u16, m: &[u8], offset: u32, complete: bool) -> Plan
     ensures { λ r. ⌜ r ≡ confirmPlan own p tag (now (m .entry)) offset complete ⌝ }
 {

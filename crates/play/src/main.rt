@@ -1,9 +1,11 @@
-// The transcript program: reads a recorded sequence of calls from standard input and prints a line for each, then the last line.
+// The transcript program: reads a recorded sequence of calls from standard input and prints a line for each, then the
+// last line.
 use libc::STDIN_FILENO;
 use libc::STDOUT_FILENO;
 use transcript::play::Player;
 
-// Plays the input. Before the events stands a header of four bytes at least, and an event has one at least: so a turn for each byte is enough to come to the end.
+// Plays the input. Before the events stands a header of four bytes at least, and an event has one at least: so a turn
+// for each byte is enough to come to the end.
 fn play(s: &[u8]) {
     let mut line = [0u8; 64];
     let mut p = transcript::play::open(s);

@@ -62,7 +62,8 @@ fn agrees(name: &[u8], number: usize, expected: &[u8], printed: &[u8]) -> bool {
     false
 }
 
-// Plays an input. Before the events stands a header of four bytes at least, and an event has one at least: so fewer turns than bytes are enough to come to the end.
+// Plays an input. Before the events stands a header of four bytes at least, and an event has one at least: so fewer
+// turns than bytes are enough to come to the end.
 fn plays(name: &[u8], s: &[u8], text: &[u8]) -> bool {
     let mut line = [0u8; 64];
     let mut p = transcript::play::open(s);

@@ -1,5 +1,5 @@
--- Reading gives back what was written, and writing what was read; a refusal leaves the buffer; no reply is longer than 64 bytes.
--- Assumes nothing.
+-- Reading gives back what was written, and writing what was read; a refusal leaves the buffer; no reply is longer
+-- than 64 bytes. Assumes nothing.
 use Prim.Native.Nat.{ℕ, _/_, _%_}
 use mathlib.Core.Path.{_≡_, refl, sym, ap, _∙_}
 use mathlib.Core.Bool.{Bool, true, false, cond, _&&_, and-eq-true-iff, false≢true}

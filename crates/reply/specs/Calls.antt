@@ -49,7 +49,8 @@ startsWith (x ∷ xs) (y ∷ ys) = eqb x y && startsWith xs ys
 unfoldable pub fitted : Reply → List ℕ → Found
 fitted r b = cond (writableOf r && startsWith (bytesOf r) b) (found.Reply r) (found.Refused notWritable)
 
--- the fields of a RESPONSE (table 20) and of a STATUS (tables 7 and 10), whose RETURN CODE at 6 is FFh for an invalid command
+-- the fields of a RESPONSE (table 20) and of a STATUS (tables 7 and 10), whose RETURN CODE at 6 is FFh for an invalid
+-- command
 abbrev pub asResponse : List ℕ → Reply
 asResponse b = Response (word b 2) (returnCode (byte b 4))
 

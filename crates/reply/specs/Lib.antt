@@ -1,5 +1,5 @@
--- What a reader must believe of `reply`: the bytes of each reply, what the writer does with a buffer, what the reader finds in bytes,
--- how the two fit, and that the answers are determined.
+-- What a reader must believe of `reply`: the bytes of each reply, what the writer does with a buffer, what the reader
+-- finds in bytes, how the two fit, and that the answers are determined.
 pub mod Replies
 pub mod Calls
 pub mod Promises

@@ -1,5 +1,5 @@
--- Demand 2 of the replies: reading a reply gives back its fields; writing those gives back its bytes; and what page 01 says of their lengths.
--- Each is proved in proofs/Promises.antt and proofs/Past.antt.
+-- Demand 2 of the replies: reading a reply gives back its fields; writing those gives back its bytes; and what page
+-- 01 says of their lengths. Each is proved in proofs/Promises.antt and proofs/Past.antt.
 use Prim.Native.Nat.{ℕ, _≤_}
 use mathlib.Core.Path.{_≡_}
 use mathlib.Core.List.{List, _++_}

@@ -28,7 +28,8 @@ plainStatuses = good .0 ∷ conditionMet .0 ∷ reservationConflict .0 ∷ taskS
 abbrev pub isNone : Sense → Bool
 isNone s = eqb (s .key) 0 && (eqb (s .code) 0 && eqb (s .qualifier) 0)
 
--- RESPONSE with one of the five codes; STATUS 02h, key up to 15; STATUS 00h, 04h, 18h, 28h, 30h, sense zero; the STATUS of an invalid command
+-- RESPONSE with one of the five codes; STATUS 02h, key up to 15; STATUS 00h, 04h, 18h, 28h, 30h, sense zero; the
+-- STATUS of an invalid command
 unfoldable pub writableOf : Reply → Bool
 writableOf (Response tag code) = oneOf (code .0) responseCodes
 writableOf (Status tag status sense) =
@@ -37,13 +38,14 @@ writableOf (Invalid tag) = true
 
 -- ---- the bytes
 
--- table 10, bytes 8 to 25: a current error, VALID clear, SENSE KEY at 10, ADDITIONAL SENSE LENGTH at 15, code and qualifier at 20 and 21
+-- table 10, bytes 8 to 25: a current error, VALID clear, SENSE KEY at 10, ADDITIONAL SENSE LENGTH at 15, code and
+-- qualifier at 20 and 21
 abbrev pub senseBytes : Sense → List ℕ
 senseBytes s =
     currentError ∷ 0 ∷ s .key ∷ 0 ∷ 0 ∷ 0 ∷ 0 ∷ additionalSenseLength ∷ 0 ∷ 0 ∷ 0 ∷ 0 ∷ s .code ∷ s .qualifier ∷ 0 ∷ 0 ∷ 0 ∷ 0 ∷ []
 
--- RESPONSE by table 20: 5 bytes. STATUS by table 7: STATUS at 4, FLAG and LINK 0, RETURN CODE 00h at 6, sense with 02h and else 18 zero bytes.
--- An invalid command's STATUS: 00h at 4, RETURN CODE FFh (INVALID FIELD) at 6, sense zero
+-- RESPONSE by table 20: 5 bytes. STATUS by table 7: STATUS at 4, FLAG and LINK 0, RETURN CODE 00h at 6, sense with
+-- 02h and else 18 zero bytes. An invalid command's STATUS: 00h at 4, RETURN CODE FFh (INVALID FIELD) at 6, sense zero
 unfoldable pub bytesOf : Reply → List ℕ
 bytesOf (Response tag code) = smsCode ∷ scsiResponse ∷ tag / 256 ∷ tag % 256 ∷ code .0 ∷ []
 bytesOf (Status tag status sense) =

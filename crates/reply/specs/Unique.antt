@@ -1,4 +1,5 @@
--- Each public function's contract determines its answer, and the writer's the buffer too: two that satisfy it are equal.
+-- Each public function's contract determines its answer, and the writer's the buffer too: two that satisfy it are
+-- equal.
 use Prim.Native.Nat.{ℕ}
 use mathlib.Core.Path.{_≡_}
 use mathlib.Core.List.{List}

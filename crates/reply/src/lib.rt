@@ -164,7 +164,8 @@ fn invalid_bytes(tag: u16) -> [u8; 26]
     b
 }
 
-// Writes the reply at the front of the buffer. A refusal changes nothing, and bytes after the reply keep their values.
+// Writes the reply at the front of the buffer. A refusal changes nothing, and bytes after the reply keep their
+// values.
 pub fn write(r: Reply, buf: &mut [u8]) -> Written
     ensures { λ w. ⌜ Writes r (now (buf .entry)) w (now (buf .exit)) ⌝ }
 {

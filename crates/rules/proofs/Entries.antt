@@ -1,11 +1,13 @@
--- What a list of rules answers: what holds of every rule's answer holds of the answer given, and where the list ends in acceptance, no rule of it applied. Assumes nothing.
+-- What a list of rules answers: what holds of every rule's answer holds of the answer given, and where the list ends
+-- in acceptance, no rule of it applied. Assumes nothing.
 use Prim.Native.Nat.{ℕ, zero, suc}
 use mathlib.Core.Path.{_≡_, refl, ap}
 use mathlib.Core.Bool.{Bool, true, false, _&&_}
 use mathlib.Core.List.{List, [], _∷_, map}
 use mathlib.Core.Logic.{inl, inr}
 use lib.ListN.{getD}
-use Rattle.task.proofs.Ways.{either-way, never, cond-ind, both}
+use Rattle.wire.proofs.Table.{cond-ind}
+use Rattle.task.proofs.Ways.{either-way, never, both}
 use Rattle.rules.specs.First.{Rule, firstThat}
 use Rattle.rules.specs.declared.command.Ruling.{Ruling}
 use Rattle.rules.specs.declared.command.Ruling.the-variants.{Refuse, Respond, Report, Invalid, Accept}

@@ -26,7 +26,8 @@ task arrival tag path unit kind phase = record {
   confirm = true;
 }
 
--- tag 0005h of the paths at 0 and 1 on unit 0, the second unconfirmed, and tag 0006h of the path at 1, the ACA task, on unit 1
+-- tag 0005h of the paths at 0 and 1 on unit 0, the second unconfirmed, and tag 0006h of the path at 1, the ACA task,
+-- on unit 1
 unfoldable pub shared : List Task
 shared = task 1 5 0 0 Simple Waiting ∷ task 2 5 1 0 Simple Unconfirmed ∷ task 3 6 1 1 Aca Waiting ∷ []
 

@@ -1,4 +1,5 @@
--- What the rules and orders ask of the table, for the sender's place p in the path list: about its task with a tag, and about a unit.
+-- What the rules and orders ask of the table, for the sender's place p in the path list: about its task with a tag,
+-- and about a unit.
 use Prim.Native.Nat.{ℕ}
 use Rattle.task.specs.Selections.{named, acaOn}
 use Rattle.table.specs.Tables.{pathAt, unitAt, isAttached, hasAca, ownedBy, pickOf, hasRoom}

@@ -60,7 +60,8 @@ isClearSet TargetReset = false
 
 -- ---- the return code
 
--- ABORT TASK: 00h, or 01h if there is none. CLEAR ACA: 00h where the sender owns the unit's ACA, else 20h. The others: 00h
+-- ABORT TASK: 00h, or 01h if there is none. CLEAR ACA: 00h where the sender owns the unit's ACA, else 20h. The
+-- others: 00h
 abbrev pub carriedCode : Facts → Order → ReturnCode
 carriedCode f (AbortTask tag2) = cond (f .taken) Codes.done Codes.taskNotFound
 carriedCode f (AbortTaskSet lun) = Codes.done
@@ -75,8 +76,9 @@ orderCode f m o = cond (reservedSet m) Codes.invalidField (cond (hasUnit o && no
 
 -- ---- what else an order does, where `others` is the map of the other paths that lose a task
 
--- CLEAR TASK SET: every other path that lost one gets cleared attention, unless reset is pending; ACA stays. CLEAR ACA: the unit's ACA goes.
--- LOGICAL UNIT RESET: the unit's ACA goes; reset attention on all paths; marks stay. TARGET RESET: the same for all units
+-- CLEAR TASK SET: every other path that lost one gets cleared attention, unless reset is pending; ACA stays. CLEAR
+-- ACA: the unit's ACA goes. LOGICAL UNIT RESET: the unit's ACA goes; reset attention on all paths; marks stay. TARGET
+-- RESET: the same for all units
 abbrev pub orderChange : ℕ → Order → Change
 orderChange others (AbortTask tag2) = Nothing
 orderChange others (AbortTaskSet lun) = Nothing

@@ -1,6 +1,7 @@
--- A command, step by step: page 01's list of eleven rules, line by line. Rule 1 has a line for each of its answers; where none of them applies, the list goes on.
+-- A command, step by step: page 01's list of eleven rules, line by line, with rule 4 as M-100 of page 02 has it. Rule
+-- 1 has a line for each of its answers; where none of them applies, the list goes on.
 use Prim.Native.Nat.{ℕ, _+_, _/_, _%_}
-use mathlib.Core.Bool.{Bool, true, false, cond, not, _&&_, _||_}
+use mathlib.Core.Bool.{Bool, true, cond, not, _&&_, _||_}
 use mathlib.Core.List.{List, [], _∷_, _++_}
 use lib.ListN.{length}
 use lib.Dec.{eqb}

@@ -24,16 +24,16 @@ pub struct Facts {
     pub busy: bool,
 }
 
-// What was looked up in the table: the facts, the sender's live task with the tag, if there is one, and the map of the other paths that
-// have a task on the unit.
+// What was looked up in the table: the facts, the sender's live task with the tag, if there is one, and the map of
+// the other paths that have a task on the unit.
 pub struct Lookup {
     pub facts: Facts,
     pub own: Pick,
     pub others: u8,
 }
 
-// What is asked of the table for the path at p, about its task with a tag and about a unit. Who else has a task on the unit is a walk over all
-// records for each path: it is asked with `clears` alone.
+// What is asked of the table for the path at p, about its task with a tag and about a unit. Who else has a task on
+// the unit is a walk over all records for each path: it is asked with `clears` alone.
 pub fn look_up(t: Table, p: u8, tag: u16, lun: u8, clears: bool) -> Lookup
     ensures { λ r. ⌜ r ≡ lookupOf t p tag lun (cond clears (othersOn t lun p) 0) ⌝ }
 {

@@ -1,4 +1,5 @@
-// A command's rules and the management orders, decided over a small record of facts, and what an answer does to paths and units.
+// A command's rules and the management orders, decided over a small record of facts, and what an answer does to paths
+// and units.
 pub mod change;
 pub mod command;
 pub mod facts;

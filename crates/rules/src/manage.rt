@@ -125,8 +125,8 @@ pub fn order_code(f: Facts, m: &[u8], o: Order) -> ReturnCode
     carried_code(f, o)
 }
 
-// What an order does besides ending tasks: CLEAR TASK SET gives the other paths that lost one, `others`, cleared attention; CLEAR ACA takes the ACA;
-// a reset takes the ACA and gives reset attention.
+// What an order does besides ending tasks: CLEAR TASK SET gives the other paths that lost one, `others`, cleared
+// attention; CLEAR ACA takes the ACA; a reset takes the ACA and gives reset attention.
 pub fn order_change(others: u8, o: Order) -> Change
     ensures { λ r. ⌜ r ≡ orderChange others o ⌝ }
 {

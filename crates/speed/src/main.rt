@@ -1,4 +1,5 @@
-// The speed program: 100,000 messages against 60 live tasks, 25,000 rounds of four, and one line that says how they were answered.
+// The speed program: 100,000 messages against 60 live tasks, 25,000 rounds of four, and one line that says how they
+// were answered.
 mod messages;
 mod tally;
 

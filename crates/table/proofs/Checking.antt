@@ -1,4 +1,5 @@
--- The check's answers: the clauses that its walks ask at each place, a wiped record, an ACA past the end, and the owner of an ACA. Assumes nothing.
+-- The check's answers: the clauses that its walks ask at each place, a wiped record, an ACA past the end, and the
+-- owner of an ACA. Assumes nothing.
 use Prim.Native.Nat.{ℕ, _≤_, _<_}
 use mathlib.Core.Path.{_≡_, refl, ap}
 use mathlib.Core.Bool.{Bool, false, not, _&&_, _||_}

@@ -1,4 +1,5 @@
--- The check is exact: it answers true for a table that is sound, and for no other. A lemma for each clause, each way. Assumes nothing.
+-- The check is exact: it answers true for a table that is sound, and for no other. A lemma for each clause, each way.
+-- Assumes nothing.
 use Prim.Native.Nat.{ℕ, _≤_, _<_}
 use mathlib.Core.Path.{_≡_, refl, sym, ap, _∙_}
 use mathlib.Core.Bool.{Bool, true, false, not, _&&_, _||_, or-true}
@@ -138,7 +139,8 @@ module _ (a b : Task) where
 
 -- ---- a live task by itself
 
--- its path is listed, its unit attached, its arrival number below the next, and an ACA task's path owns the unit's ACA
+-- its path is listed, its unit attached, its arrival number below the next, and an ACA task's path owns the unit's
+-- ACA
 pub record InOrder (count mask : ℕ) (units : List unit.Unit) (next : ℕ) (a : Task) : Type 0 where
   pub listed : a .path < count
   pub attached : bitOf mask (a .unit) ≡ true

@@ -19,7 +19,8 @@ use Rattle.task.specs.declared.Kind.{Kind}
 use Rattle.task.specs.declared.Phase.{Phase}
 use Rattle.task.specs.declared.Task.{Task}
 use Rattle.task.specs.declared.select.Place.the-variants.{Anywhere, On}
-use Rattle.task.proofs.Ways.{either-way, never, cond-ind, both, neither}
+use Rattle.wire.proofs.Table.{cond-ind, neither}
+use Rattle.task.proofs.Ways.{either-way, never, both}
 use Rattle.task.proofs.Places.{lt-or-le, some-none, none-at}
 use Rattle.task.proofs.Bits.{mapOf-lt, live-mapOf}
 use Rattle.task.proofs.Maps.{with-lt}
@@ -46,7 +47,8 @@ getD-same (suc n) (suc i) d = getD-same n i d
 
 -- ---- a change of paths and units
 
--- what unit u of t may have: an ACA only where it is attached, with a listed owner, and the owner's where it has an ACA task
+-- what unit u of t may have: an ACA only where it is attached, with a listed owner, and the owner's where it has an
+-- ACA task
 pub record MayHave (t : Table) (u : ℕ) (aca : Aca) : Type 0 where
   pub owner : (p : ℕ) → u < 8 → aca ≡ Owned p → (isAttached t u ≡ true) × (p < t .count)
   pub owned : (i : ℕ) (a : Task) → i < 64 → at t i ≡ some a → isAca (a .kind) ≡ true → a .unit ≡ u → aca ≡ Owned (a .path)

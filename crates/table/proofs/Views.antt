@@ -1,4 +1,5 @@
--- What each change does to the task that is live at a place, what it leaves as it was, and what a selection finds, by places. Assumes nothing.
+-- What each change does to the task that is live at a place, what it leaves as it was, and what a selection finds, by
+-- places. Assumes nothing.
 use Prim.Native.Nat.{ℕ, suc, _<_}
 use mathlib.Core.Path.{_≡_, refl, sym, ap, ap₂, subst, _∙_}
 use mathlib.Core.Bool.{Bool, true, false, cond, not, _&&_}
@@ -17,7 +18,8 @@ use Rattle.task.specs.Next.{Stands}
 use Rattle.task.specs.declared.Kind.{Kind}
 use Rattle.task.specs.declared.Task.{Task}
 use Rattle.task.specs.declared.select.Selection.{Selection}
-use Rattle.task.proofs.Ways.{either-way, never, cond-ind, both}
+use Rattle.wire.proofs.Table.{cond-ind}
+use Rattle.task.proofs.Ways.{either-way, never, both}
 use Rattle.task.proofs.Places.{some-at, some-find}
 use Rattle.task.proofs.Bits.{dead-zero, live-mapOf}
 use Rattle.task.proofs.Maps.{with-same, with-other, lowest-free}

@@ -12,7 +12,8 @@ use Rattle.task.specs.Tasks.{runs}
 use Rattle.task.specs.Map.{isLive, lowestFree}
 use Rattle.task.specs.Selections.{picks}
 use Rattle.task.specs.declared.Task.{Task}
-use Rattle.task.proofs.Ways.{both, cond-ind}
+use Rattle.wire.proofs.Table.{cond-ind}
+use Rattle.task.proofs.Ways.{both}
 use Rattle.task.proofs.Places.{sum-ext, sum-zero, sum-change}
 use Rattle.task.proofs.Bits.{ones-count}
 use Rattle.table.specs.Tables.{taskAt, hasRoom, withPaths, withUnits, putAt, newTask, endedBy, alteredAt, resetOf}

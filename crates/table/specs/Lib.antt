@@ -1,4 +1,5 @@
--- What a reader must believe of `table`: what a table holds, how it changes, the table that setup gives, when it is sound, and what is promised of all that.
+-- What a reader must believe of `table`: what a table holds, how it changes, the table that setup gives, when it is
+-- sound, and what is promised of all that.
 pub mod Tables
 pub mod Setup
 pub mod Sound

@@ -1,5 +1,5 @@
--- What is promised of the table beside the contracts: the check is exact, each change keeps a table sound under the condition that the engine has,
--- and what each change does to the tasks. Each is proved in proofs/.
+-- What is promised of the table beside the contracts: the check is exact, each change keeps a table sound under the
+-- condition that the engine has, and what each change does to the tasks. Each is proved in proofs/.
 use Prim.Native.Nat.{ℕ, _+_, _<_, _^_}
 use mathlib.Core.Path.{_≡_}
 use mathlib.Core.Bool.{Bool, true, false, cond}
@@ -37,7 +37,8 @@ pub record Good (t : Table) : Type 0 where
 abbrev pub FreshIsGood : Type 0
 FreshIsGood = (ids : List ℕ) (attached next : ℕ) → next < 2 ^ 64 → badList ids ≡ false → Good (setupTable ids attached next)
 
--- a command's path and tag are free, its path is listed, its unit attached; kind ACA only for the owner of the unit's ACA with no ACA task live
+-- a command's path and tag are free, its path is listed, its unit attached; kind ACA only for the owner of the unit's
+-- ACA with no ACA task live
 pub record MayCome (t : Table) (path tag unit : ℕ) (kind : Kind) : Type 0 where
   pub listed : path < t .count
   pub attached : isAttached t unit ≡ true
@@ -59,7 +60,8 @@ pub record SameTask (a b : Task) : Type 0 where
   pub unit : b .unit ≡ a .unit
   pub kind : b .kind ≡ a .kind
 
--- a record may change so where its task does not run then, or nothing runs on its unit before: a start, a finish that leaves the task unconfirmed, and a restart
+-- a record may change so where its task does not run then, or nothing runs on its unit before: a start, a finish that
+-- leaves the task unconfirmed, and a restart
 abbrev pub AlterKeeps : Type 0
 AlterKeeps = (t : Table) (i : ℕ) (b : Task) → Good t → SameTask (taskAt t i) b → (isRunning (b .phase) ≡ true → anyLive t (runningOn (b .unit)) ≡ false) → Good (alteredAt t i b)
 

@@ -1,4 +1,5 @@
--- The table that setup gives: no task, no mark, no ACA, reset attention on every path; and the all-zero table where setup is refused.
+-- The table that setup gives: no task, no mark, no ACA, reset attention on every path; and the all-zero table where
+-- setup is refused.
 use Prim.Native.Nat.{ℕ, _-_}
 use mathlib.Core.Bool.{Bool, false, cond, _||_}
 use mathlib.Core.List.{List, [], _∷_, _++_}

@@ -1,8 +1,8 @@
--- When a table is sound: page 01's clauses as a record with a named field for each, and as the test that the check makes.
+-- When a table is sound: page 01's clauses as a record with a named field for each, and as the test that the check
+-- makes.
 use Prim.Native.Nat.{ℕ, _<_, _≤_, _^_}
 use mathlib.Core.Path.{_≡_}
-use mathlib.Core.Bool.{Bool, true, false, cond, not, _||_, _&&_}
-use mathlib.Core.List.{List}
+use mathlib.Core.Bool.{Bool, true, cond, not, _||_, _&&_}
 use mathlib.Core.Option.{none, some}
 use lib.ListN.{length}
 use lib.Dec.{eqb, ltb, leb}

@@ -226,7 +226,8 @@ leftBy t i a transferred = cond (a .confirm) (alteredAt t i (awaits transferred 
 abbrev pub runsAt : Table → ℕ → Bool
 runsAt t i = ltb i 64 && (isLive (t .live) i && isRunning (taskAt t i .phase))
 
--- the device has finished the task that runs in record i; a dead record, or one whose task does not run, changes nothing
+-- the device has finished the task that runs in record i; a dead record, or one whose task does not run, changes
+-- nothing
 unfoldable pub finished : Table → ℕ → Bool → ℕ → Table
 finished t i failed transferred = cond (runsAt t i) (leftBy (claimedBy t (taskAt t i) failed) i (taskAt t i) transferred) t
 

@@ -18,7 +18,8 @@ abbrev pub weightAt : (Task → ℕ) → Option Task → ℕ
 weightAt f none = 0
 weightAt f (some a) = f a
 
--- the weight of all live tasks: with the weight 1 for every task it counts them, with 1 for the tasks of a path and 0 for all others those of that path
+-- the weight of all live tasks: with the weight 1 for every task it counts them, with 1 for the tasks of a path and 0
+-- for all others those of that path
 unfoldable pub weight : (Task → ℕ) → Table → ℕ
 weight f t = sum 64 (λ i. weightAt f (at t i))
 

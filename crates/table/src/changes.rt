@@ -130,8 +130,9 @@ impl Table {
         self
     }
 
-    // The device has finished the task that runs in the record: with CONFIRM it waits to be confirmed, else it ends. Where it failed,
-    // its unit gets ACA owned by its path, unless it has one. A dead record, or one whose task does not run, changes nothing.
+    // The device has finished the task that runs in the record: with CONFIRM it waits to be confirmed, else it ends.
+    // Where it failed, its unit gets ACA owned by its path, unless it has one. A dead record, or one whose task does
+    // not run, changes nothing.
     pub fn finish(mut self, i: usize, failed: bool, transferred: u64) -> Table
         ensures { λ r. ⌜ r ≡ finished self i failed transferred ⌝ }
     {

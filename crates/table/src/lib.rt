@@ -1,4 +1,5 @@
-// The task table: 64 records, 8 paths, 8 units, by value. Every call of the engine takes one and hands back the next. It knows no message.
+// The task table: 64 records, 8 paths, 8 units, by value. Every call of the engine takes one and hands back the next.
+// It knows no message.
 pub mod changes;
 pub mod paths;
 pub mod setup;
@@ -43,7 +44,8 @@ pub struct Table {
     pub tasks: [Task; RECORDS],
 }
 
-// The table's limits, beside task::RECORDS; LAST_ARRIVAL is the last arrival number that a command can take, 2^64 - 2.
+// The table's limits, beside task::RECORDS; LAST_ARRIVAL is the last arrival number that a command can take, 2^64 -
+// 2.
 pub const PATHS: usize = 8;
 
 // The same as a count of paths, and the places of paths, are kept.

@@ -18,7 +18,8 @@ pub(crate) fn no_path() -> Path
     }
 }
 
-// Whether bit i of a map of paths or units is 1; there are as many of the one as of the other, and none past the last.
+// Whether bit i of a map of paths or units is 1; there are as many of the one as of the other, and none past the
+// last.
 pub(crate) fn bit_of(map: u8, i: usize) -> bool
     ensures { λ r. ⌜ r ≡ Tables.bitOf map i ⌝ }
 {

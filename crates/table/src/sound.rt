@@ -104,7 +104,8 @@ fn may_stand(aca: Aca, a: Task) -> bool
     true
 }
 
-// A live record names a listed path and an attached unit, its arrival number lies below the next, and it may stand under its unit's ACA.
+// A live record names a listed path and an attached unit, its arrival number lies below the next, and it may stand
+// under its unit's ACA.
 fn live_ok(next: u64, count: u8, attached: u8, aca: Aca, a: Task) -> bool
     ensures { λ r. ⌜ r ≡ liveOk next count attached aca a ⌝ }
 {
@@ -136,7 +137,8 @@ fn unit_ok(count: u8, attached: u8, u: usize, a: Unit) -> bool
     }
 }
 
-// Two tasks that can't both be live: they share an arrival number, path and tag, or a unit on which both run or both are ACA tasks.
+// Two tasks that can't both be live: they share an arrival number, path and tag, or a unit on which both run or both
+// are ACA tasks.
 fn alike(a: Task, b: Task) -> bool
     ensures { λ r. ⌜ r ≡ Sound.alike a b ⌝ }
 {
@@ -173,7 +175,8 @@ fn cannot_share_unit(a: Task, b: Task) -> bool
     false
 }
 
-// Records i and j hold the tasks a and b that can't both be live, and are. Few pairs are alike, so that is asked first.
+// Records i and j hold the tasks a and b that can't both be live, and are. Few pairs are alike, so that is asked
+// first.
 fn clash(live: u64, i: usize, a: Task, j: usize, b: Task) -> bool
     ensures { λ r. ⌜ r ≡ clashOf live i a j b ⌝ }
 {

@@ -1,4 +1,5 @@
--- Bits of a number of any width: by halves, of `&`, `|`, `!` and a power, and of the map of what a test picks. Assumes nothing.
+-- Bits of a number of any width: by halves, of `&`, `|`, `!` and a power, and of the map of what a test picks.
+-- Assumes nothing.
 use Prim.Native.Nat.{ℕ, zero, suc, _+_, _-_, _*_, _/_, _%_, _^_, _≤_, _<_, min, max, suc-le-suc}
 use mathlib.Core.Path.{_≡_, refl, sym, ap, ap₂, _∙_, fun-ext}
 use mathlib.Core.Bool.{Bool, true, false, cond, not, _||_, _&&_}

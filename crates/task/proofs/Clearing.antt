@@ -1,4 +1,5 @@
--- A pass over the places that clears the bits that a test picks: `clearBelow k p live` is the map after k of them. Assumes nothing.
+-- A pass over the places that clears the bits that a test picks: `clearBelow k p live` is the map after k of them.
+-- Assumes nothing.
 use Prim.Native.Nat.{ℕ, zero, suc, _+_, _^_, _≤_, _<_}
 use mathlib.Core.Path.{_≡_, refl, sym, ap, _∙_}
 use mathlib.Core.Bool.{Bool, true, false, cond, not, _&&_, and-true, and-false}
@@ -8,7 +9,7 @@ use native.Mathlib.Numerals.{add-one}
 use native.Mathlib.Omega.{arith}
 use Rattle.task.specs.Index.{mapOf}
 use Rattle.task.specs.Map.{isLive, withoutBit}
-use Rattle.task.proofs.Ways.{cond-ind}
+use Rattle.wire.proofs.Table.{cond-ind}
 use Rattle.task.proofs.Places.{below-suc}
 use Rattle.task.proofs.Bits.{is-mapOf}
 use Rattle.task.proofs.Maps.{without-same, without-other, without-le}

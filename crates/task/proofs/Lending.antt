@@ -3,7 +3,8 @@
 --     Owned            what the slice owns
 --     looks-at         [the token; what the slice owns; …]: element i is taken out, with its machine value written out and its relation in hand
 --     shuts-at         and put back: [the token; what the slice owns; …] again
--- And what the lender asks: field k of a struct in memory, an array of R, is lent as a `&[R]`, where R has one machine value and owns facts alone.
+-- And what the lender asks: field k of a struct in memory, an array of R, is lent as a `&[R]`, where R has one
+-- machine value and owns facts alone.
 --     of-records       what a struct that holds the array knows of it, said of the author's records
 --     lends-field      [the struct's cell; …]: a lifetime is made, and the field is lent for it: [the token; what the slice owns; what is kept; …]
 --     has-back         [the token; what is kept; …]: the lifetime is ended, and the struct is whole again

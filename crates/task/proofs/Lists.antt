@@ -1,4 +1,5 @@
--- Laws of `mapAt`, and of a loop that rewrites an array in place: `mapBelow k f l` is l with f through its first k elements. Assumes nothing.
+-- Laws of `mapAt`, and of a loop that rewrites an array in place: `mapBelow k f l` is l with f through its first k
+-- elements. Assumes nothing.
 use Prim.Native.Nat.{ℕ, zero, suc, _+_, _≤_, _<_}
 use mathlib.Core.Path.{_≡_, refl, sym, ap, _∙_}
 use mathlib.Core.Bool.{cond}

@@ -1,4 +1,5 @@
--- What a loop over the places asks of `some`, `all`, `first` and `mapOf`: its start, a turn that goes on, a turn that answers, its end. Assumes nothing.
+-- What a loop over the places asks of `some`, `all`, `first` and `mapOf`: its start, a turn that goes on, a turn that
+-- answers, its end. Assumes nothing.
 --     some-loop, all-loop, first-loop      for `search`, where a turn's test is a call's answer b with b ≡ p i. The loop for `first` keeps the invariant of that for `some`
 use Prim.Native.Nat.{ℕ, zero, suc, _+_, _*_, _^_, _≤_, _<_}
 use mathlib.Core.Path.{_≡_, refl, sym, _∙_}

@@ -8,7 +8,7 @@ use lib.Pow.{pow-lt}
 use lib.Bits.{or-lt, and-le-l}
 use borrow.Author.Tests.{lt-ltb, ltb-true, not-true}
 use Rattle.task.specs.Map.{isLive, isFree, lowestFree, withBit, withoutBit}
-use Rattle.task.proofs.Ways.{cond-ind}
+use Rattle.wire.proofs.Table.{cond-ind}
 use Rattle.task.proofs.Places.{first-picks}
 use Rattle.task.proofs.Bits.{live-and, live-or, live-not, live-pow-same, live-pow-other}
 

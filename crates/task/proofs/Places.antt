@@ -1,4 +1,5 @@
--- Laws of places below a bound: `first`, `some`, `all`, `sum` and `mapOf`, by what holds at each place. Assumes nothing.
+-- Laws of places below a bound: `first`, `some`, `all`, `sum` and `mapOf`, by what holds at each place. Assumes
+-- nothing.
 use Prim.Native.Nat.{ℕ, zero, suc, _+_, _≤_, _<_, suc-le-suc}
 use mathlib.Core.Path.{_≡_, refl, sym, ap, ap₂, _∙_}
 use mathlib.Core.Bool.{Bool, true, false, cond, _||_, _&&_, or-true, and-false}
@@ -8,7 +9,8 @@ use native.Mathlib.Omega.{arith}
 use lib.Dec.{ltb}
 use borrow.Author.Tests.{ltb-true, ltb-false}
 use Rattle.task.specs.Index.{first, someBelow, allBelow, sum, one, mapOf}
-use Rattle.task.proofs.Ways.{cond-ind, either-way, never}
+use Rattle.wire.proofs.Table.{cond-ind}
+use Rattle.task.proofs.Ways.{either-way, never}
 
 -- a place below n + 1 is n, or below n
 pub below-suc : {i n : ℕ} → i < suc n → (i ≡ n) ⊎ (i < n)

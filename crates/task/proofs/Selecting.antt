@@ -1,4 +1,5 @@
--- What a selection picks: by its parts, and as plain facts for each selection that the rules speak of. Assumes nothing.
+-- What a selection picks: by its parts, and as plain facts for each selection that the rules speak of. Assumes
+-- nothing.
 use Prim.Native.Nat.{ℕ}
 use mathlib.Core.Path.{_≡_, refl, ap, _∙_}
 use mathlib.Core.Bool.{Bool, true, _&&_, and-true}

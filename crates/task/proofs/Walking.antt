@@ -1,4 +1,5 @@
--- The parts of a walk by hand that do not depend on its code, for a function whose parameters are plain data and shared references, so that nothing is had of them at exit.
+-- The parts of a walk by hand that do not depend on its code, for a function whose parameters are plain data and
+-- shared references, so that nothing is had of them at exit.
 --     Slot, envOf, onto    a local: its type, where it lies, and its value if it has one.        The locals as an environment, and on a context, the last first
 --     leaves           at the exit each local is freed, whatever it holds
 --     local, copied    a local as a place, and as an operand, its cell being at n of the context

@@ -1,4 +1,5 @@
--- Tests: cases by a test's answer, and what a chain of early returns comes to, against `&&`, `||`, `not` and a choice. Assumes nothing.
+-- Tests: cases by a test's answer, and what a chain of early returns comes to, against `&&`, `||`, `not` and a
+-- choice. Assumes nothing.
 --     ways          for `search`, an answer by early returns: each test of the definition by the branch, or the call's answer, that told it
 --     and-ways      the same where `&&` joins the answers of calls, and each `if` asks for the inverted one
 use Prim.Native.Nat.{ℕ, _<_, _≤_}
@@ -16,11 +17,6 @@ either-way false = inr refl
 pub never : {b : Bool} → b ≡ true → b ≡ false → ⊥
 never h l = let z : _≡_ {A = ℕ} 0 1 = cc in omega arith
 
--- a fact about a choice, from each case with its test
-pub cond-ind : {A : Type 0} (P : A → Type 0) (b : Bool) {x y : A} → (b ≡ true → P x) → (b ≡ false → P y) → P (cond b x y)
-cond-ind P true f g = f refl
-cond-ind P false f g = g refl
-
 pub both : (b c : Bool) → (b && c) ≡ true → (b ≡ true) × (c ≡ true)
 both true c h = (refl, h)
 both false c h = absurd (never h refl)
@@ -28,10 +24,6 @@ both false c h = absurd (never h refl)
 pub either : (b c : Bool) → (b || c) ≡ true → (b ≡ true) ⊎ (c ≡ true)
 either true c h = inl refl
 either false c h = inr h
-
-pub neither : (b c : Bool) → (b || c) ≡ false → (b ≡ false) × (c ≡ false)
-neither true c h = absurd (never refl h)
-neither false c h = (refl, h)
 
 -- ---- a test's outcome, as a branch gives it of a call's answer b, which the call ensures to be x
 

@@ -1,4 +1,5 @@
--- Places below a bound: the first that a test picks, whether it picks some, or all; how many; the map of them; sums and lists by place.
+-- Places below a bound: the first that a test picks, whether it picks some, or all; how many; the map of them; sums
+-- and lists by place.
 use Prim.Native.Nat.{ℕ, zero, suc, _+_, _*_}
 use mathlib.Core.Bool.{Bool, true, false, cond, _||_, _&&_}
 use mathlib.Core.List.{List, [], _∷_}

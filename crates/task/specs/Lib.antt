@@ -1,4 +1,5 @@
--- What a reader must believe of `task`: the record, the map of live records, which tasks a selection picks, which task goes next.
+-- What a reader must believe of `task`: the record, the map of live records, which tasks a selection picks, which
+-- task goes next.
 pub mod Index
 pub mod Tasks
 pub mod Map

@@ -1,4 +1,5 @@
--- The 64-bit map that says which records are live: a bit, the lowest free place, how many are live, a bit set and cleared.
+-- The 64-bit map that says which records are live: a bit, the lowest free place, how many are live, a bit set and
+-- cleared.
 use Prim.Native.Nat.{ℕ, _-_, _/_, _%_, _^_}
 use mathlib.Core.Bool.{Bool, cond, not}
 use lib.Dec.{eqb, ltb}

@@ -1,5 +1,5 @@
--- What the scan's answer is, said with no fold: nobody; or of the records that take part the HEAD OF QUEUE task with the highest arrival number;
--- or, where none is one, the task with the lowest.
+-- What the scan's answer is, said with no fold: nobody; or of the records that take part the HEAD OF QUEUE task with
+-- the highest arrival number; or, where none is one, the task with the lowest.
 use Prim.Native.Nat.{ℕ, _<_, _≤_}
 use mathlib.Core.Path.{_≡_}
 use mathlib.Core.Bool.{Bool, true, false}

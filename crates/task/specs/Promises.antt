@@ -1,5 +1,5 @@
--- What is promised beside the contracts: the live count, a count by places, is the number of ones of the map, and the lowest free place is the number of
--- trailing zeros of the inverted map. Both are proved in proofs/Promises.antt.
+-- What is promised beside the contracts: the live count, a count by places, is the number of ones of the map, and the
+-- lowest free place is the number of trailing zeros of the inverted map. Both are proved in proofs/Promises.antt.
 use Prim.Native.Nat.{ℕ, _-_, _^_, _<_}
 use mathlib.Core.Path.{_≡_}
 use lib.Count.{ones, trailingZeros}

@@ -1,4 +1,5 @@
--- The scan: a fold over the records that keeps the task that goes before every other picked so far. What it comes to is said in Next.antt.
+-- The scan: a fold over the records that keeps the task that goes before every other picked so far. What it comes to
+-- is said in Next.antt.
 use Prim.Native.Nat.{ℕ, _+_}
 use mathlib.Core.Bool.{Bool, true, false, cond, not, _&&_, _||_}
 use mathlib.Core.List.{List, [], _∷_}

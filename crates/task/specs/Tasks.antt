@@ -1,4 +1,5 @@
--- A task's record: the wiped one, and the numbers of kinds and phases.
+-- A task's record: the numbers of kinds and phases, the wiped record, a task as its command is accepted, and how it
+-- changes while it is live.
 use Prim.Native.Nat.{ℕ}
 use mathlib.Core.Bool.{Bool, true, false}
 use Rattle.wire.specs.Codes

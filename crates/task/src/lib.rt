@@ -1,4 +1,5 @@
-// A task's record, the map of live records, which tasks a selection picks, and the scan of lent records. It knows no message and no table.
+// A task's record, the map of live records, which tasks a selection picks, and the scan of lent records. It knows no
+// message and no table.
 ghost use mathlib.Core.Path.{_≡_};
 ghost use Rattle.task.specs.Tasks.{noTask, kindNumber, phaseNumber};
 
@@ -24,8 +25,9 @@ pub enum Phase {
     Unconfirmed,
 }
 
-// A task's record, 32 bytes: fields lie in the order written, the widest first. The path is its place in the path list.
-// Of a command with CONFIRM it keeps the bytes that the last finish said were transferred, and the offset that it was last restarted at.
+// A task's record, 32 bytes: fields lie in the order written, the widest first. The path is its place in the path
+// list. Of a command with CONFIRM it keeps the bytes that the last finish said were transferred, and the offset that
+// it was last restarted at.
 pub struct Task {
     pub arrival: u64,
     pub transferred: u64,

@@ -45,7 +45,8 @@ fn is_head(k: Kind) -> bool
     }
 }
 
-// Whether a goes before b: a HEAD OF QUEUE task before any other, the latest of those first; of the others the earliest.
+// Whether a goes before b: a HEAD OF QUEUE task before any other, the latest of those first; of the others the
+// earliest.
 fn goes_before(a: Task, b: Task) -> bool
     ensures { λ r. ⌜ r ≡ beats a b ⌝ }
 {

@@ -1,4 +1,5 @@
--- What a match tells of its last arm: an answer that is of none of the sorts named before it is no refusal. Assumes nothing.
+-- What a match tells of its last arm: an answer that is of none of the sorts named before it is no refusal. Assumes
+-- nothing.
 use Prim.Native.Nat.{ℕ}
 use mathlib.Core.Path.{_≡_, refl}
 use mathlib.Core.Bool.{false}

@@ -1,5 +1,5 @@
--- Every line fits its 64 bytes, so what is written of it is the whole line, and the whole line is left in a buffer of 64 bytes or more.
--- Assumes nothing.
+-- Every line fits its 64 bytes, so what is written of it is the whole line, and the whole line is left in a buffer of
+-- 64 bytes or more. Assumes nothing.
 use Prim.Native.Nat.{ℕ, zero, suc, _+_, _/_, _≤_, _<_, zero-le}
 use mathlib.Core.Path.{_≡_, refl, sym, subst, _∙_}
 use mathlib.Core.Bool.{Bool, true, false, cond}

@@ -1,5 +1,8 @@
--- The lines of a transcript: the event's number in decimal, then a word and its numbers. Tags are four upper-case hex digits, codes and status fields two.
+-- The lines of a transcript: the event's number in decimal, then a word and its numbers. Tags are four upper-case hex
+-- digits, codes and status fields two.
 use Prim.Native.Nat.{ℕ, zero, suc, _+_, _/_, _%_}
+use Prim.Native.Char.{code}
+use Prim.Native.String.{String, [] as ended, _∷_ as _then_}
 use mathlib.Core.List.{List, [], _∷_, _++_}
 use mathlib.Core.Path.{_≡_}
 use mathlib.Core.Bool.{cond, _||_}
@@ -13,61 +16,54 @@ use Rattle.plan.specs.declared.Answer.the-variants as answer
 use Rattle.plan.specs.declared.Answer.the-variants.{Ready, Accepted, Started, Confirmed, Restarted, Reset, Refused}
 use Rattle.transcript.specs.declared.line.Line.{Line}
 
--- ---- words, in ASCII
+-- ---- words
+
+-- the bytes of a text in ASCII: the code of each character
+abbrev pub ascii : String → List ℕ
+ascii ended = []
+ascii (c then rest) = code c ∷ ascii rest
 
 abbrev pub space : ℕ
-space = 32
+space = 0x20
 
 abbrev pub newline : ℕ
-newline = 10
+newline = 0x0a
 
--- " accepted "
 abbrev pub acceptedWord : List ℕ
-acceptedWord = 32 ∷ 97 ∷ 99 ∷ 99 ∷ 101 ∷ 112 ∷ 116 ∷ 101 ∷ 100 ∷ 32 ∷ []
+acceptedWord = ascii " accepted "
 
--- " response"
 abbrev pub responseWord : List ℕ
-responseWord = 32 ∷ 114 ∷ 101 ∷ 115 ∷ 112 ∷ 111 ∷ 110 ∷ 115 ∷ 101 ∷ []
+responseWord = ascii " response"
 
--- " status"
 abbrev pub statusWord : List ℕ
-statusWord = 32 ∷ 115 ∷ 116 ∷ 97 ∷ 116 ∷ 117 ∷ 115 ∷ []
+statusWord = ascii " status"
 
--- " invalid"
 abbrev pub invalidWord : List ℕ
-invalidWord = 32 ∷ 105 ∷ 110 ∷ 118 ∷ 97 ∷ 108 ∷ 105 ∷ 100 ∷ []
+invalidWord = ascii " invalid"
 
--- " confirmed "
 abbrev pub confirmedWord : List ℕ
-confirmedWord = 32 ∷ 99 ∷ 111 ∷ 110 ∷ 102 ∷ 105 ∷ 114 ∷ 109 ∷ 101 ∷ 100 ∷ 32 ∷ []
+confirmedWord = ascii " confirmed "
 
--- " restarted "
 abbrev pub restartedWord : List ℕ
-restartedWord = 32 ∷ 114 ∷ 101 ∷ 115 ∷ 116 ∷ 97 ∷ 114 ∷ 116 ∷ 101 ∷ 100 ∷ 32 ∷ []
+restartedWord = ascii " restarted "
 
--- " started "
 abbrev pub startedWord : List ℕ
-startedWord = 32 ∷ 115 ∷ 116 ∷ 97 ∷ 114 ∷ 116 ∷ 101 ∷ 100 ∷ 32 ∷ []
+startedWord = ascii " started "
 
--- " refused "
 abbrev pub refusedWord : List ℕ
-refusedWord = 32 ∷ 114 ∷ 101 ∷ 102 ∷ 117 ∷ 115 ∷ 101 ∷ 100 ∷ 32 ∷ []
+refusedWord = ascii " refused "
 
--- " reset"
 abbrev pub resetWord : List ℕ
-resetWord = 32 ∷ 114 ∷ 101 ∷ 115 ∷ 101 ∷ 116 ∷ []
+resetWord = ascii " reset"
 
--- "end"
 abbrev pub endWord : List ℕ
-endWord = 101 ∷ 110 ∷ 100 ∷ []
+endWord = ascii "end"
 
--- " ok "
 abbrev pub okWord : List ℕ
-okWord = 32 ∷ 111 ∷ 107 ∷ 32 ∷ []
+okWord = ascii " ok "
 
--- " bad"
 abbrev pub badWord : List ℕ
-badWord = 32 ∷ 98 ∷ 97 ∷ 100 ∷ []
+badWord = ascii " bad"
 
 -- ---- numbers
 
@@ -140,7 +136,8 @@ unfoldable pub pushAll : Line → List ℕ → Line
 pushAll l [] = l
 pushAll l (b ∷ bs) = pushAll (pushed l b) bs
 
--- a line handed over into a lent buffer: its bytes at the front, the rest as it was; a buffer under 64 bytes gets nothing
+-- a line handed over into a lent buffer: its bytes at the front, the rest as it was; a buffer under 64 bytes gets
+-- nothing
 unfoldable pub handedOf : Line → List ℕ → ℕ
 handedOf l buf = cond (ltb (length buf) 64 || ltb 64 (l .len)) 0 (l .len)
 

@@ -93,7 +93,8 @@ turned p s =
 abbrev pub turnText : Turn → List ℕ
 turnText t = cond (t .played) (lineOf (t .player .number) (t .answer)) []
 
--- one event in, one line out; nothing where there is no event, and nothing played where the line buffer is under 64 bytes
+-- one event in, one line out; nothing where there is no event, and nothing played where the line buffer is under 64
+-- bytes
 abbrev pub turnLine : Turn → Line
 turnLine t = pushAll emptyLine (lineOf (t .player .number) (t .answer))
 

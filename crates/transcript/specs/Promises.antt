@@ -37,7 +37,8 @@ LastLinesAreWhole = (p : Player) → Fits (lastText p)
 abbrev pub Leaves : List ℕ → ℕ → List ℕ → Type 0
 Leaves text wrote left = (wrote ≡ length text) × (take wrote left ≡ text)
 
--- advance takes the turn and writes its text, the line of the event or nothing; close writes the last line. So what they leave in the buffer is what is printed
+-- advance takes the turn and writes its text, the line of the event or nothing; close writes the last line. So what
+-- they leave in the buffer is what is printed
 abbrev pub AdvancePrints : Type 0
 AdvancePrints =
     (p : Player) (s buf : List ℕ) (r : Step) (left : List ℕ) → 64 ≤ length buf → Advances p s buf r left

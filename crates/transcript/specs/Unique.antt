@@ -1,4 +1,5 @@
--- Each public function's contract determines its outcome: two outcomes that each satisfy it are equal, the bytes of the line buffer too.
+-- Each public function's contract determines its outcome: two outcomes that each satisfy it are equal, the bytes of
+-- the line buffer too.
 use Prim.Native.Nat.{ℕ}
 use mathlib.Core.Path.{_≡_}
 use mathlib.Core.List.{List}

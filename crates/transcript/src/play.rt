@@ -202,7 +202,8 @@ fn idle(p: Player, state: State) -> Turn
     }
 }
 
-// One event in, one line out; nothing is written where there is no event, or where the buffer is under 64 bytes, and then nothing is played either.
+// One event in, one line out; nothing is written where there is no event, or where the buffer is under 64 bytes, and
+// then nothing is played either.
 pub fn advance(p: Player, s: &[u8], line: &mut [u8]) -> Step
     ensures { λ r. ⌜ Advances p (now (s .entry)) (now (line .entry)) r (now (line .exit)) ⌝ }
 {

@@ -1,5 +1,5 @@
--- The table of masks says what tables 5 and 11 say of the reserved fields, and a walk over a row's masks finds out which it is.
--- Assumes nothing.
+-- The table of masks says what tables 5 and 11 say of the reserved fields, and a walk over a row's masks finds out
+-- which it is. Assumes nothing.
 use Prim.Native.Nat.{ℕ, _+_, _*_, _/_, _%_, _^_, _≤_, _<_}
 use mathlib.Core.Path.{_≡_, refl, sym, _∙_}
 use mathlib.Core.Bool.{Bool, true, false, _||_, or-true}
@@ -17,7 +17,8 @@ use Rattle.wire.specs.Fields.{byte}
 use Rattle.wire.specs.Messages.{rows, rowIn, rowOf, commandReserved, confirmReserved, reservedSet}
 use Rattle.wire.proofs.Table.{every, at, cond-ind, neither}
 
--- a mask for each of the first 17 bytes, with the reserved bits set: a command's, CONFIRM STATUS's, then those of the other rows
+-- a mask for each of the first 17 bytes, with the reserved bits set: a command's, CONFIRM STATUS's, then those of the
+-- other rows
 abbrev pub width : ℕ
 width = 17
 

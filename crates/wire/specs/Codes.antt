@@ -1,5 +1,6 @@
--- The numbers of page 01 and 003 under their names: page 01's refusals, the codes of 003's tables 4, 6, 9, 10 and 21, and those of SCSI-3 that page 01 names.
--- They stand here for every crate above; places, lengths and masks stand with the layouts (Messages.antt, Block.antt).
+-- The numbers of page 01 and 003 under their names: page 01's refusals, the codes of 003's tables 4, 6, 9, 10 and 21,
+-- and those of SCSI-3 that page 01 names. They stand here for every crate above; places, lengths and masks stand with
+-- the layouts (Messages.antt, Block.antt).
 use Prim.Native.Nat.{ℕ}
 use Rattle.wire.specs.declared.codes.Refusal.{Refusal}
 use Rattle.wire.specs.declared.codes.ReturnCode.{ReturnCode}
@@ -68,7 +69,7 @@ notSound = refusal 13
 abbrev pub notWritable : Refusal
 notWritable = refusal 14
 
--- CONFIRM STATUS: no task of that path and tag waits to be confirmed
+-- page 02, M-100. CONFIRM STATUS: no task of that path and tag waits to be confirmed
 abbrev pub nothingToConfirm : Refusal
 nothingToConfirm = refusal 15
 

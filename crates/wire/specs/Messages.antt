@@ -1,4 +1,5 @@
--- The messages that are received (003, tables 4, 5, 11 and 14 to 19): the table of them, the fields of each, and which bytes are none.
+-- The messages that are received (003, tables 4, 5, 11 and 14 to 19): the table of them, the fields of each, and
+-- which bytes are none.
 use Prim.Native.Nat.{ℕ, _+_, _/_, _%_}
 use mathlib.Core.List.{List, [], _∷_}
 use mathlib.Core.Bool.{Bool, false, cond, not, _||_}

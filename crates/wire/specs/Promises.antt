@@ -1,5 +1,5 @@
--- What is promised of `wire` beside its contracts: what is read bears its S3P CODE, and bytes past the specified length are not read.
--- Each is proved in proofs/Promises.antt and proofs/Past.antt.
+-- What is promised of `wire` beside its contracts: what is read bears its S3P CODE, and bytes past the specified
+-- length are not read. Each is proved in proofs/Promises.antt and proofs/Past.antt.
 use Prim.Native.Nat.{ℕ}
 use mathlib.Core.Path.{_≡_}
 use mathlib.Core.Bool.{false}
@@ -43,7 +43,8 @@ pub record Whole (m : List ℕ) : Type 0 where
   pub fields : (n : Refusal) → readOf m ≡ Refused n → ⊥
   pub block : byte m 1 ≡ scsiCommand → cutShort m ≡ false
 
--- bytes after it change no answer; what `read` answers wants no whole block, and what is asked of the block wants no more than the block
+-- bytes after it change no answer; what `read` answers wants no whole block, and what is asked of the block wants no
+-- more than the block
 pub record PastIsNotRead : Type 0 where
   pub read : (m rest : List ℕ) → (readOf m ≡ Refused tooShort → ⊥) → readOf (m ++ rest) ≡ readOf m
   pub reserved-set : (m rest : List ℕ) → Whole m → reservedSet (m ++ rest) ≡ reservedSet m

@@ -1,4 +1,5 @@
-// The numbers of page 01 and 003, those of a type as its associated constants. specs/Codes.antt has them under the same names and says when each is meant.
+// The numbers of page 01 and 003, those of a type as its associated constants. specs/Codes.antt has them under the
+// same names and says when each is meant.
 
 // The reply buffer that every call with a reply asks for.
 pub const REPLY_ROOM: usize = 64;

@@ -1,4 +1,5 @@
-// The tables that messages are read by: a row for each kind of message in the order of 003's table 4, and the lengths of command blocks.
+// The tables that messages are read by: a row for each kind of message in the order of 003's table 4, and the lengths
+// of command blocks.
 use crate::codes::ABORT_TASK;
 use crate::codes::ABORT_TASK_SET;
 use crate::codes::CLEAR_ACA;
@@ -22,11 +23,12 @@ pub(crate) const CODES: [u8; 8] = [
     LOGICAL_UNIT_RESET,
 ];
 
-// The minimum length of each row: 11 bytes for a command, whose block rule 2 asks for; the whole table length for the others.
+// The minimum length of each row: 11 bytes for a command, whose block rule 2 asks for; the whole table length for the
+// others.
 pub(crate) const LENGTHS: [usize; 8] = [11, 17, 10, 9, 9, 8, 9, 9];
 
-// The reserved bits of the first 17 bytes of each row: a command has bytes 9, 11, 14 and 15, and bits 3 and 2 of byte 10;
-// CONFIRM STATUS bits 6 to 0 of byte 16.
+// The reserved bits of the first 17 bytes of each row: a command has bytes 9, 11, 14 and 15, and bits 3 and 2 of byte
+// 10; CONFIRM STATUS bits 6 to 0 of byte 16.
 pub(crate) const WIDTH: usize = 17;
 
 const COMMAND: [u8; 17] = [0, 0, 0, 0, 0, 0, 0, 0, 0, 255, 12, 255, 0, 0, 255, 255, 0];

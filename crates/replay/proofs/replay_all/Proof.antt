@@ -1,4 +1,5 @@
--- `replay::replay_all` is safe and ends: the place in the names rises to their length, and no more are counted than bytes were passed. Assumes nothing.
+-- `replay::replay_all` is safe and ends: the place in the names rises to their length, and no more are counted than
+-- bytes were passed. Assumes nothing.
 use borrow.Author.Needs.{needs}
 use lib.ListN.{length}
 use mathlib.Core.Logic.{⊎-elim}

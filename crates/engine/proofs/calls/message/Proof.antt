@@ -83,7 +83,7 @@ same-length c = search needs
 returns : tie.Need-returns
 unfolding withRecords
 returns c =
-    -- h: where the ways of the deed meet; g: where the ways to the plan meet
+    -- h: where the ways of the change of the records meet; g: where the ways to the plan meet
     let h = c .before .before .before .before .before .before in
     let g = h .before .before .before .before .before in
     let s = g .before .before in

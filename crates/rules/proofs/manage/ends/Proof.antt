@@ -33,7 +33,6 @@ enum-known-o-5 c = search needs
 on-unit-requires-2 : tie.Need-on-unit-requires-2
 on-unit-requires-2 c κs = search needs
 
--- /work/main/target/rlib/task.rlib/interface/lang/src/select.rt:11:50
 enum-told : tie.Need-enum-told
 enum-told c = search needs
 

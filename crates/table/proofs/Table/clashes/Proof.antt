@@ -1,4 +1,5 @@
--- `Table::clashes` meets its contract. The loops' invariants: no record below i clashes with one below it, nor does i with one below j. Assumes nothing.
+-- `Table::clashes` meets its contract. The loops' invariants: no record below i clashes with one below it, nor does i
+-- with one below j. Assumes nothing.
 use Prim.Native.Nat.{_≤_, _-_}
 use mathlib.Core.Path.{_≡_, refl, sym, _∙_}
 use mathlib.Core.Bool.{false}

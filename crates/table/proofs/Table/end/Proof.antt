@@ -1,4 +1,5 @@
--- `Table::end` meets its contract. The loop's invariant: what is picked below i is wiped and its bit cleared. Assumes nothing.
+-- `Table::end` meets its contract. The loop's invariant: what is picked below i is wiped and its bit cleared. Assumes
+-- nothing.
 use Prim.Native.Nat.{_≤_, _-_}
 use mathlib.Core.Path.{_≡_}
 use mathlib.Core.Logic.{⊎-elim}

@@ -1,4 +1,5 @@
--- `Table::finish` meets its contract: no such record, none that runs there, a task to be confirmed, one that ends. Assumes nothing.
+-- `Table::finish` meets its contract: no such record, none that runs there, a task to be confirmed, one that ends.
+-- Assumes nothing.
 use mathlib.Core.Logic.{⊎-elim}
 use borrow.Author.Needs.{needs}
 use Rattle.table.specs.Tables.{taskAt}

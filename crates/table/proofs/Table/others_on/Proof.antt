@@ -1,4 +1,5 @@
--- `Table::others_on` meets its contract. The loop's invariant: the map is that of the others below p; and the records are 64. Assumes nothing.
+-- `Table::others_on` meets its contract. The loop's invariant: the map is that of the others below p; and the records
+-- are 64. Assumes nothing.
 use Prim.Native.Nat.{_≤_, _-_}
 use mathlib.Core.Path.{_≡_, _∙_}
 use mathlib.Core.Logic.{⊎-elim}

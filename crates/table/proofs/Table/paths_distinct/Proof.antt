@@ -1,4 +1,5 @@
--- `Table::paths_distinct` meets its contract. The loop's invariant: every listed path below p is the first with its id. Assumes nothing.
+-- `Table::paths_distinct` meets its contract. The loop's invariant: every listed path below p is the first with its
+-- id. Assumes nothing.
 use Prim.Native.Nat.{_≤_, _-_}
 use mathlib.Core.Path.{_≡_}
 use mathlib.Core.Bool.{true, false}

@@ -1,6 +1,6 @@
--- `Table::pick` meets its contract: a walk of its MIR, by hand. The table is copied to a local in memory, and its records, field 6, are lent as a `&[Task]` for a lifetime that is made for the call.
--- All that the proof knows of `next_of` is that it meets its contract.
--- Assumes nothing.
+-- `Table::pick` meets its contract: a walk of its MIR, by hand. The table is copied to a local in memory, and its
+-- records, field 6, are lent as a `&[Task]` for a lifetime that is made for the call. All that the proof knows of
+-- `next_of` is that it meets its contract. Assumes nothing.
 use mathlib.Core.Path.{_≡_, refl, sym, _∙_}
 use mathlib.Core.Option.{Option, none as free, some as holds}
 use mathlib.Core.List.{List, [], _∷_}

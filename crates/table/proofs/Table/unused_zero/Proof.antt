@@ -1,4 +1,5 @@
--- `Table::unused_zero` meets its contract. The loop's invariant: every path below p is listed or all zero. Assumes nothing.
+-- `Table::unused_zero` meets its contract. The loop's invariant: every path below p is listed or all zero. Assumes
+-- nothing.
 use Prim.Native.Nat.{_≤_, _-_}
 use mathlib.Core.Logic.{⊎-elim}
 use mathlib.Core.Path.{_≡_}

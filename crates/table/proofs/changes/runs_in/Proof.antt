@@ -1,4 +1,5 @@
--- `changes::runs_in` meets its contract: by the phase of a live record's task, and no where it is dead. Assumes nothing.
+-- `changes::runs_in` meets its contract: by the phase of a live record's task, and no where it is dead. Assumes
+-- nothing.
 use borrow.Author.Needs.{needs}
 use Rattle.table.proofs.changes.runs_in.Statement.{statement}
 use Rattle.table.proofs.changes.runs_in.Tie as tie

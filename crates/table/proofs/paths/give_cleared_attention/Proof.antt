@@ -1,4 +1,5 @@
--- `paths::give_cleared_attention` meets its contract. The loop's invariant: the paths of the map below p are warned, the others as they were. Assumes nothing.
+-- `paths::give_cleared_attention` meets its contract. The loop's invariant: the paths of the map below p have cleared attention,
+-- the others as they were. Assumes nothing.
 use Prim.Native.Nat.{_≤_, _-_}
 use mathlib.Core.Path.{_≡_}
 use mathlib.Core.Logic.{⊎-elim}

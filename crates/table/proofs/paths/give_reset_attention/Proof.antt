@@ -1,4 +1,5 @@
--- `paths::give_reset_attention` meets its contract. The loop's invariant: the listed paths below p are alarmed, the others as they were. Assumes nothing.
+-- `paths::give_reset_attention` meets its contract. The loop's invariant: the listed paths below p have reset attention, the
+-- others as they were. Assumes nothing.
 use Prim.Native.Nat.{_≤_, _-_}
 use mathlib.Core.Path.{_≡_}
 use mathlib.Core.Logic.{⊎-elim}

@@ -1,4 +1,5 @@
--- `setup::bad_list` meets its contract. The loop's invariant: no id below i stands among those before it. Assumes nothing.
+-- `setup::bad_list` meets its contract. The loop's invariant: no id below i stands among those before it. Assumes
+-- nothing.
 use Prim.Native.Nat.{_≤_, _-_}
 use mathlib.Core.Path.{_≡_}
 use mathlib.Core.Bool.{false}

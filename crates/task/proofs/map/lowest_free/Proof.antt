@@ -1,4 +1,5 @@
--- `map::lowest_free` meets its contract: the trailing zeros of the inverted map are its lowest free place. Assumes nothing.
+-- `map::lowest_free` meets its contract: the trailing zeros of the inverted map are its lowest free place. Assumes
+-- nothing.
 use Prim.Native.Nat.{_-_, _^_}
 use native.Mathlib.Omega.{arith}
 use lib.Count.{trailing-le}

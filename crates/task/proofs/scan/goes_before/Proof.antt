@@ -1,4 +1,5 @@
--- `scan::goes_before` meets its contract: of two that are both HEAD OF QUEUE, or both not, the arrival numbers decide. Assumes nothing.
+-- `scan::goes_before` meets its contract: of two that are both HEAD OF QUEUE, or both not, the arrival numbers
+-- decide. Assumes nothing.
 use borrow.Author.Needs.{needs}
 use Rattle.task.proofs.Ways.{ways}
 use Rattle.task.proofs.scan.goes_before.Statement.{statement}

@@ -1,7 +1,7 @@
--- `scan::next_of` meets its contract: a walk of its MIR, by hand, with a loop. Each turn looks into the lent slice, copies one record out, shuts the borrow, and calls `consider`.
--- All that the proof knows of `none` and of `consider` is that each meets its contract.
--- The loop's state is the index, the best so far with its machine value, and what is known of them: what is left to scan gives what the whole scan gives.
--- Assumes nothing.
+-- `scan::next_of` meets its contract: a walk of its MIR, by hand, with a loop. Each turn looks into the lent slice,
+-- copies one record out, shuts the borrow, and calls `consider`. All that the proof knows of `none` and of `consider`
+-- is that each meets its contract. The loop's state is the index, the best so far with its machine value, and what is
+-- known of them: what is left to scan gives what the whole scan gives. Assumes nothing.
 use mathlib.Core.Path.{_≡_, refl, sym, ap, _∙_}
 use mathlib.Core.Bool.{Bool, true, false}
 use mathlib.Core.Logic.{inl, inr}
@@ -131,7 +131,8 @@ module _ {M : Type 1} (𝓤 : URA M) (H : Heap 𝓤) (A : Atoms 𝓤) (W : Given
         (LL.makes P.the-type P′.the-plain 𝓤 H A, (LL.makes T.the-type T′.the-plain 𝓤 H A, (uint-makes 𝓤 H A W w64, (uint-makes 𝓤 H A W w64, (LL.makes S.the-type S′.the-plain 𝓤 H A, tt)))))
         (isp, (ist, ((refl, gi), ((refl, gl), (gs, tt)))))
 
-  -- the loop's state: the index, the best so far and its machine value; what is left to scan gives what the whole scan gives
+  -- the loop's state: the index, the best so far and its machine value; what is left to scan gives what the whole
+  -- scan gives
   abbrev State : Type 0
   State = (i : ℕ) × (p : Pick) × (u : Val) × (i ≤ n) × Is P.the-row p (u ∷ []) × (scanFrom live s p i (drop i ys) ≡ scan live s ys)
 
@@ -143,7 +144,8 @@ module _ {M : Type 1} (𝓤 : URA M) (H : Heap 𝓤) (A : Atoms 𝓤) (W : Given
 
   module _ (𝓣 : Tables 𝓤 H) (known-none : Triple 𝓤 (𝓣 .C #none) (None 𝓤 H A mem run)) (known-consider : Triple 𝓤 (𝓣 .C #consider) (Consider 𝓤 H A mem run)) where
     module _ (l₀ l₁ l₂ l₃ l₄ l₅ l₆ l₇ l₈ l₉ : ℕ) where
-      -- the locals: the result, `tasks`, `live`, `s`, `best`, `i`; the length or the offset, the test, where the record lies, and the record
+      -- the locals: the result, `tasks`, `live`, `s`, `best`, `i`; the length or the offset, the test, where the
+      -- record lies, and the record
       abbrev locals : (r best i len less : Option Val) → List Slot
       locals r best i len less = (P′.mir, l₀, r) ∷ (slice, l₁, holds v) ∷ (tyInt w64, l₂, holds (vint w64 live)) ∷ (S′.mir, l₃, holds w) ∷ (P′.mir, l₄, best) ∷ (tyInt w64, l₅, i)
           ∷ (tyInt w64, l₆, len) ∷ (tyBool, l₇, less) ∷ (tyPtr, l₈, free) ∷ (T′.mir, l₉, free) ∷ []
