@@ -157,12 +157,12 @@ impl Selection {
     }
 
     // The running task with an arrival number.
-    pub fn running_as(arrival: u64) -> Selection
-        ensures { λ r. ⌜ r ≡ Selections.runningAs arrival ⌝ }
+    pub fn running_as(n: u64) -> Selection
+        ensures { λ r. ⌜ r ≡ Selections.runningAs n ⌝ }
     {
         let all = Selection::ALL;
         Selection {
-            number: Number::Exactly(arrival),
+            number: Number::Exactly(n),
             stage: Stage::Now(Phase::Running),
             ..all
         }
