@@ -140,7 +140,7 @@ fn show_task(live: u64, i: usize, a: Task) {
     if is_live(live, i) {
         text(b"; task ");
     } else {
-        if table::sound::is_no_task(a) {
+        if sound::clauses::is_no_task(a) {
             return;
         }
         text(b"; dead ");
@@ -159,7 +159,7 @@ fn show_tasks(t: Table) {
 
 // The table: all of it that is not zero.
 pub(crate) fn show(t: Table) {
-    word_if(b"not ", !t.sound());
+    word_if(b"not ", !sound::is_sound(t));
     counted(b"sound next ", t.next);
     counted(b" count ", t.count as u64);
     text(b" attached ");

@@ -18,11 +18,11 @@ use Rattle.task.proofs.Ways.{either-way, never, both}
 use Rattle.task.proofs.Places.{first-ext}
 use Rattle.task.proofs.Selecting.{picks-named}
 use Rattle.table.specs.Tables.{placeOf, pathOf, anyLive, pickOf}
-use Rattle.table.specs.Sound.{soundOf}
-use Rattle.table.specs.Promises.{Good}
+use Rattle.sound.specs.Sound.{soundOf}
+use Rattle.sound.specs.Promises.{Good}
 use Rattle.table.specs.declared.Table.{Table}
 use Rattle.table.proofs.Views.{some-any, any-some, any-is-found}
-use Rattle.table.proofs.Exact.{check-is-exact}
+use Rattle.sound.proofs.Exact.{check-is-exact}
 use Rattle.rules.specs.Facts.{factsOf, lookupOf}
 use Rattle.rules.specs.Management.{orderCode}
 use Rattle.rules.specs.declared.manage.Order.the-variants as order

@@ -29,7 +29,7 @@ use Rattle.task.specs.declared.select.Selection.{Selection}
 use Rattle.task.proofs.Ways.{answered-true, answered-false}
 use Rattle.table.specs.Tables.{pathOf, pathAt, unitAt, hasAca, pickOf, othersOn, started, finished, resetOf}
 use Rattle.table.specs.Setup.{badList, setupTable}
-use Rattle.table.specs.Sound.{soundOf}
+use Rattle.sound.specs.Sound.{soundOf}
 use Rattle.table.specs.declared.Aca.{Aca}
 use Rattle.table.specs.declared.Path as path
 use Rattle.table.specs.declared.Unit as unit

@@ -18,7 +18,7 @@ use Rattle.task.proofs.Ways.{both}
 use Rattle.task.proofs.Selecting.{meets, picks-named}
 use Rattle.table.specs.Tables.{pathOf, pickOf, endedBy, restarted}
 use Rattle.table.specs.View.{at}
-use Rattle.table.specs.Promises.{Good}
+use Rattle.sound.specs.Promises.{Good}
 use Rattle.table.specs.declared.Table.{Table}
 use Rattle.table.proofs.Views.{OnlyTasks, live-at, spared, at-ended, ended-only, ended-next, altered-at, altered-other, altered-only, altered-next, pick-at}
 use Rattle.rules.specs.Facts.{lookupOf}

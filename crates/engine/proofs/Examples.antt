@@ -10,7 +10,7 @@ use Rattle.task.specs.Selections.{picks}
 use Rattle.task.specs.Scan.{considered, scanFrom}
 use Rattle.table.specs.Tables.{zeroTable, placeOf as pathPlace, anyLive, pickOf, hasRoom, accepted, endedBy, alteredAt, markedIn, attentionGoneIn, resetAttentionIn, othersOn, acaClearedIn, finished}
 use Rattle.table.specs.Setup.{badList, freshPaths, pathsOf, freshTable, setupTable}
-use Rattle.table.specs.Sound.{countOk, pathsDistinct, unusedZero, recordsOk, unitsOk, clashes, soundOf}
+use Rattle.sound.specs.Sound.{countOk, pathsDistinct, unusedZero, recordsOk, unitsOk, clashes, soundOf}
 use Rattle.rules.specs.First.{firstThat}
 use Rattle.rules.specs.Facts.{factsOf, lookupOf}
 use Rattle.rules.specs.Rules.{resumesUnmarked, missesResume, contradicts, keptOutByAca, acaKindWithoutAca, passesAttention, resetToReport, clearedToReport, roomRules, fieldRules, unitRules, blockRules, commandRules}

@@ -21,13 +21,13 @@ use Rattle.task.proofs.Ways.{never, both}
 use Rattle.task.proofs.Places.{first-picks}
 use Rattle.task.proofs.Selecting.{meets, picks-every, picks-on, picks-aca-on, picks-aca-from-on}
 use Rattle.table.specs.Tables.{placeOf, pathOf, unitAt, taskAt, hasAca, ownedBy, anyLive, pickOf, hasRoom, othersOn, withPaths, endedBy, markedIn, resetAttentionIn}
-use Rattle.table.specs.Sound.{Shaped}
-use Rattle.table.specs.Promises.{Good, MayCome}
+use Rattle.table.specs.View.{Shaped}
+use Rattle.sound.specs.Promises.{Good, MayCome}
 use Rattle.table.specs.declared.Aca.{Aca}
 use Rattle.table.specs.declared.Aca.the-variants.{Clear, Owned}
 use Rattle.table.specs.declared.Table.{Table}
 use Rattle.table.proofs.Views.{live-at, pick-at, any-is-found, none-left}
-use Rattle.table.proofs.Keeps.{accept-keeps, may-come as paths-may-come, end-keeps, start-keeps as start-task-keeps, restart-keeps, clear-keeps, mark-keeps, attention-gone-keeps, reset-attention-keeps, cleared-attention-keeps, finish-keeps as finish-task-keeps, reset-keeps as reset-table-keeps, setup-is-good as setup-table-is-good}
+use Rattle.sound.proofs.Keeps.{accept-keeps, may-come as paths-may-come, end-keeps, start-keeps as start-task-keeps, restart-keeps, clear-keeps, mark-keeps, attention-gone-keeps, reset-attention-keeps, cleared-attention-keeps, finish-keeps as finish-task-keeps, reset-keeps as reset-table-keeps, setup-is-good as setup-table-is-good}
 use Rattle.rules.specs.Facts.{factsOf, lookupOf}
 use Rattle.rules.specs.Rules.{asksAca, keptOutByAca, acaKindWithoutAca, roomRules, fieldRules, unitRules, blockRules, commandRules, accepts, deciding}
 use Rattle.rules.specs.Management.{endsOf, tagOf, unitOf, orderCode, orderChange}

@@ -15,7 +15,7 @@ use Rattle.task.specs.Selections.{runningOn, runningAs, numberedAs}
 use Rattle.task.specs.declared.scan.Pick.{Pick}
 use Rattle.wire.proofs.Table.{cond-ind}
 use Rattle.table.specs.Tables.{pathOf, pathAt, isAttached, pickOf, started, finished, resetOf}
-use Rattle.table.specs.Sound.{soundOf}
+use Rattle.sound.specs.Sound.{soundOf}
 use Rattle.table.specs.declared.Table.{Table}
 use Rattle.table.proofs.Views.{altered-none, finished-none}
 use Rattle.rules.specs.declared.change.Change.the-variants as change

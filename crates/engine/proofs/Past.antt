@@ -17,7 +17,7 @@ use Rattle.wire.proofs.Promises.{read-by-code}
 use Rattle.wire.proofs.Past.{past-is-not-read as past}
 use Rattle.wire.proofs.Table.{cond-ind}
 use Rattle.task.proofs.Ways.{either-way}
-use Rattle.table.specs.Sound.{soundOf}
+use Rattle.sound.specs.Sound.{soundOf}
 use Rattle.table.specs.declared.Table.{Table}
 use Rattle.rules.specs.First.{Rule, firstThat}
 use Rattle.rules.specs.Rules.{passesAttention, resetToReport, clearedToReport, roomRules, fieldRules, unitRules, blockRules, commandRules, accepts, deciding}

@@ -22,7 +22,7 @@ use Rattle.task.specs.declared.scan.Pick.{Pick}
 use Rattle.task.specs.declared.select.Selection.{Selection}
 use Rattle.table.specs.Tables.{pathOf, pathAt, unitAt, isAttached, hasAca, pickOf, othersOn, accepted, endedBy, started, restarted, finished, resetOf}
 use Rattle.table.specs.Setup.{badList, setupTable}
-use Rattle.table.specs.Sound.{soundOf}
+use Rattle.sound.specs.Sound.{soundOf}
 use Rattle.table.specs.declared.Table.{Table}
 use Rattle.table.specs.declared.Aca.{Aca}
 use Rattle.rules.specs.Facts.{lookupOf}

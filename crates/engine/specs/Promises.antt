@@ -24,7 +24,7 @@ use Rattle.task.specs.declared.scan.Pick.{Pick}
 use Rattle.table.specs.Tables.{zeroTable, pathOf, pathAt, unitAt, started}
 use Rattle.table.specs.Setup.{badList}
 use Rattle.table.specs.View.{at}
-use Rattle.table.specs.Promises.{Good}
+use Rattle.sound.specs.Promises.{Good}
 use Rattle.table.specs.declared.Table.{Table}
 use Rattle.plan.specs.Plans.{askedOf, replyOf}
 use Rattle.plan.specs.declared.Request.the-variants.{Confirm}

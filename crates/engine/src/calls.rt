@@ -16,6 +16,7 @@ use plan::Request;
 use reply::Reply;
 use rules::facts::Lookup;
 use rules::facts::look_up;
+use sound::is_sound;
 use table::Aca;
 use table::PATHS;
 use table::Table;
@@ -90,7 +91,7 @@ fn plan_for(s: Lookup, next: u64, p: u8, tag: u16, m: &[u8], w: Request) -> Plan
 pub fn message(mut t: Table, m: &[u8], reply: &mut [u8]) -> Outcome
     ensures { λ o. ⌜ MessageContract t (now (m .entry)) (now (reply .entry)) o (now (reply .exit)) ⌝ }
 {
-    let asked = heard(t.sound(), reply.len(), m);
+    let asked = heard(is_sound(t), reply.len(), m);
     let plan = match asked {
         Asked::Unread(n) => plan::refuse(n),
         Asked::By { path, tag, request } => {
@@ -169,7 +170,7 @@ fn reject(n: Refusal) -> Verdict
 fn choose(t: Table, unit: u8) -> Verdict
     ensures { λ r. ⌜ r ≡ startVerdict t unit ⌝ }
 {
-    if !t.sound() {
+    if !is_sound(t) {
         return reject(Refusal::NOT_SOUND);
     }
     if !t.is_attached(unit) {
@@ -245,7 +246,7 @@ fn sent_sense(status: StatusByte, sense: Sense) -> Sense
 fn judge(t: Table, arrival: u64, status: StatusByte, sense: Sense, n: usize) -> Verdict
     ensures { λ r. ⌜ r ≡ finishVerdict t arrival status sense n ⌝ }
 {
-    if !t.sound() {
+    if !is_sound(t) {
         return reject(Refusal::NOT_SOUND);
     }
     if n < REPLY_ROOM {
@@ -308,7 +309,7 @@ pub fn total_reset(mut t: Table) -> Outcome
     ensures { λ o. ⌜ TotalResetContract t o ⌝ }
 {
     let mut answer = Answer::Refused(Refusal::NOT_SOUND);
-    if t.sound() {
+    if is_sound(t) {
         t = t.reset();
         answer = Answer::Reset;
     }

@@ -26,9 +26,8 @@ use Rattle.task.proofs.Ways.{either-way, never, both}
 use Rattle.task.proofs.Places.{first-picks, first-before, first-is}
 use Rattle.task.proofs.Selecting.{meets, running-number, picks-every}
 use Rattle.table.specs.Tables.{pathAt, hasId, placeOf, pathOf, hasRoom, pickOf, newTask, accepted, endedBy, alteredAt, started, restarted, finished, resetOf, withPaths, withUnits}
-use Rattle.table.specs.Sound.{Shaped}
-use Rattle.table.specs.View.{at, weightAt, weight}
-use Rattle.table.specs.Promises.{Good}
+use Rattle.table.specs.View.{Shaped, at, weightAt, weight}
+use Rattle.sound.specs.Promises.{Good}
 use Rattle.table.specs.declared.Path as path
 use Rattle.table.specs.declared.Unit as unit
 use Rattle.table.specs.declared.Table.{Table}

@@ -13,10 +13,10 @@ use Rattle.wire.specs.declared.codes.Refusal.{Refusal}
 use Rattle.task.proofs.Ways.{either-way}
 use Rattle.table.specs.Tables.{zeroTable, alteredAt, finished}
 use Rattle.table.specs.Setup.{badList, freshTable, setupTable}
-use Rattle.table.specs.Sound.{countOk, soundOf}
+use Rattle.sound.specs.Sound.{countOk, soundOf}
 use Rattle.table.specs.declared.Path as path
 use Rattle.table.specs.declared.Table.{Table}
-use Rattle.table.proofs.Keeps.{listed-at}
+use Rattle.sound.proofs.Keeps.{listed-at}
 use Rattle.table.proofs.Views.{at-empty, not-both}
 use Rattle.table.proofs.Weights.{setup-weighs}
 use Rattle.engine.specs.Calls.{heardOf, answeredTo, messageOf, startVerdict, startOf, finishVerdict, finishOf, totalResetOf, setupOf}

@@ -16,9 +16,8 @@ use Rattle.wire.proofs.Table.{cond-ind}
 use Rattle.task.proofs.Ways.{either-way, both}
 use Rattle.task.proofs.Places.{lt-or-le}
 use Rattle.table.specs.Tables.{pathAt}
-use Rattle.table.specs.Sound.{Shaped}
-use Rattle.table.specs.View.{at, weightAt, weight}
-use Rattle.table.specs.Promises.{Good}
+use Rattle.table.specs.View.{Shaped, at, weightAt, weight}
+use Rattle.sound.specs.Promises.{Good}
 use Rattle.table.specs.declared.Table.{Table}
 use Rattle.history.specs.Trace.{countsAsStatus, Effect, Fate, stays, becomes, ended, fateOf}
 use Rattle.history.specs.Ledger.{Ending, Entry, isEmpty, isOpen, newEntry, afterFate, afterEffect, newEntries, noted, total, countOf}

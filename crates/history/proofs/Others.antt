@@ -19,8 +19,7 @@ use Rattle.task.specs.declared.select.Selection.{Selection}
 use Rattle.wire.proofs.Table.{cond-ind}
 use Rattle.task.proofs.Ways.{either-way, both}
 use Rattle.table.specs.Tables.{pathOf, pickOf, hasRoom, accepted, endedBy}
-use Rattle.table.specs.Sound.{Shaped}
-use Rattle.table.specs.View.{at}
+use Rattle.table.specs.View.{Shaped, at}
 use Rattle.table.specs.declared.Table.{Table}
 use Rattle.table.proofs.Views.{not-both, at-put-other, at-free, same-at, ended-to, altered-other, pick-at}
 use Rattle.rules.specs.Facts.{factsOf, lookupOf}

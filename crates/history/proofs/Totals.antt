@@ -11,7 +11,7 @@ use Rattle.task.specs.declared.Task.{Task}
 use Rattle.task.proofs.Places.{lt-or-le, sum-at, sum-zero}
 use Rattle.table.specs.Tables.{alteredAt}
 use Rattle.table.specs.View.{at, weightAt, weight}
-use Rattle.table.specs.Promises.{Good}
+use Rattle.sound.specs.Promises.{Good}
 use Rattle.table.specs.declared.Table.{Table}
 use Rattle.table.proofs.Views.{altered-at, altered-other}
 use Rattle.table.proofs.Weights.{weight-ext}

@@ -13,7 +13,7 @@ use Rattle.task.specs.Tasks.{acceptedAs}
 use Rattle.task.specs.declared.Task.{Task}
 use Rattle.table.specs.Tables.{pathOf, zeroTable}
 use Rattle.table.specs.View.{at, liveOf}
-use Rattle.table.specs.Promises.{Good}
+use Rattle.sound.specs.Promises.{Good}
 use Rattle.table.specs.declared.Table.{Table}
 use Rattle.plan.specs.Plans.{askedOf}
 use Rattle.engine.specs.Calls.{SetupContract, MessageContract, StartContract, FinishContract, TotalResetContract}

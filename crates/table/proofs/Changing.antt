@@ -30,12 +30,13 @@ use Rattle.task.proofs.Lists.{mapBelow, mapBelow-ahead, mapBelow-zero, mapBelow
 use Rattle.task.proofs.Bits.{mapOf-lt}
 use Rattle.task.proofs.Loops.{mapOf-start, mapOf-add, mapOf-skip}
 use Rattle.task.proofs.Clearing.{clearBelow, clear-zero, clear-step, clear-skip, clear-ahead, clear-all}
-use Rattle.table.specs.Tables.{noPath, noUnit, taskAt, hasId, placeOf, picksAt, anyLive, pickOf, lastArrival, hasRoom, withTasks, withUnits, newTask, accepted, endedBy, alteredAt, resetAttentionIn, isOtherOn, othersOn, claimedIn, acaClearedIn, claimedBy, finished, resetOf}
+use Rattle.table.specs.Tables.{noPath, noUnit, taskAt, hasId, placeOf, ownedBy, acaAt, picksAt, anyLive, pickOf, lastArrival, hasRoom, withTasks, withUnits, newTask, accepted, endedBy, alteredAt, resetAttentionIn, isOtherOn, othersOn, claimedIn, acaClearedIn, claimedBy, finished, resetOf}
+use Rattle.table.specs.declared.Aca.{Aca}
 use Rattle.table.specs.declared.Aca.the-variants.{Clear, Owned}
 use Rattle.table.specs.declared.Path as path
 use Rattle.table.specs.declared.Unit as unit
 use Rattle.table.specs.declared.Table.{Table}
-use Rattle.table.proofs.Lists.{unmapped}
+use Rattle.table.proofs.Lists.{unmapped, past-end}
 use Rattle.table.proofs.Views.{any-found}
 
 pub ruleset bounded = (cond-below, cond-past)
@@ -47,6 +48,14 @@ unfolding placeOf
 place-fits paths count id e =
     let p : ℕ → Bool = λ q. hasId count id q (getD paths q noPath) in
     rw e (⊎-elim (λ l. le-of-eq (first-none 8 p (λ k m. first-before 8 k p (lt-trans m l)))) (λ l. l) (lt-or-le 8 (first 8 p)))
+
+-- ---- an ACA past the end, and one with an owner
+
+pub no-aca : (units : List unit.Unit) (u : ℕ) → length units ≡ 8 → 8 ≤ u → Clear ≡ acaAt units u
+no-aca units u e h = ap (λ (a : unit.Unit). a .aca) (past-end units noUnit 8 e h refl)
+
+pub owner-asked : {aca : Aca} {p : ℕ} (path : ℕ) → aca ≡ Owned p → eqb p path ≡ ownedBy aca path
+owner-asked path e = rw e
 
 -- ---- a loop over the paths: those that q picks go through g
 

@@ -27,8 +27,7 @@ use Rattle.task.proofs.Lists.{getD-mapAt}
 use Rattle.task.proofs.Next.{scan-stands, found-is-some}
 use Rattle.table.specs.Tables.{noPath, zeroTable, taskAt, bitOf, isReset, picksAt, anyLive, pickOf, hasRoom, withTasks, withPaths, withUnits, putAt, newTask, accepted, endedBy, alteredAt, markedIn, attentionGoneIn, resetAttentionIn, clearedAttentionIn, claimedBy, finished, resetOf}
 use Rattle.table.specs.Setup.{badList, freshTable, setupTable}
-use Rattle.table.specs.Sound.{Shaped}
-use Rattle.table.specs.View.{at}
+use Rattle.table.specs.View.{Shaped, at}
 use Rattle.table.specs.Promises.{AnyIsFound}
 use Rattle.table.specs.declared.Path as path
 use Rattle.table.specs.declared.Unit as unit

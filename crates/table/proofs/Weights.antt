@@ -18,8 +18,7 @@ use Rattle.task.proofs.Places.{sum-ext, sum-zero, sum-change}
 use Rattle.task.proofs.Bits.{ones-count}
 use Rattle.table.specs.Tables.{taskAt, hasRoom, withPaths, withUnits, putAt, newTask, endedBy, alteredAt, resetOf}
 use Rattle.table.specs.Setup.{setupTable}
-use Rattle.table.specs.Sound.{Shaped}
-use Rattle.table.specs.View.{at, weightAt, weight}
+use Rattle.table.specs.View.{Shaped, at, weightAt, weight}
 use Rattle.table.specs.Promises.{AcceptWeighs, EndWeighs, AlterWeighs, StartWeighs, SetupWeighs, ResetWeighs, OnesAreLive}
 use Rattle.table.specs.declared.Path as path
 use Rattle.table.specs.declared.Unit as unit

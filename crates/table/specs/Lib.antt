@@ -1,8 +1,7 @@
--- What a reader must believe of `table`: what a table holds, how it changes, the table that setup gives, when it is
--- sound, and what is promised of all that.
+-- What a reader must believe of `table`: what a table holds, how it changes, the table that setup gives, and what is
+-- promised of all that. When a table is sound stands in `sound`.
 pub mod Tables
 pub mod Setup
-pub mod Sound
 pub mod View
 pub mod Promises
 pub mod Unique

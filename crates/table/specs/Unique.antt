@@ -5,14 +5,12 @@ use mathlib.Core.Bool.{Bool}
 use mathlib.Core.List.{List}
 use Rattle.wire.specs.Unique.{One}
 use Rattle.task.specs.declared.Kind.{Kind}
-use Rattle.task.specs.declared.Task.{Task}
 use Rattle.task.specs.declared.select.Selection.{Selection}
 use Rattle.task.specs.declared.select.Place.{Place}
-use Rattle.table.specs.Tables.{zeroTable, pathAt, unitAt, taskAt, isAttached, isReset, isCleared, hasAca, ownedBy, pathOf, pickOf, hasRoom}
+use Rattle.table.specs.Tables.{zeroTable, pathAt, unitAt, taskAt, bitOf, isAttached, isNothing, isReset, isCleared, hasAca, ownedBy, acaAt, placeOf, pathOf, pickOf, hasRoom}
 use Rattle.table.specs.Tables.{markedIn, attentionGoneIn, resetAttentionIn, clearedAttentionIn, acaClearedIn, othersOn}
 use Rattle.table.specs.Tables.{accepted, endedBy, started, restarted, finished, resetOf}
 use Rattle.table.specs.Setup.{badList, setupTable}
-use Rattle.table.specs.Sound.{isNoTask, soundOf}
 use Rattle.table.specs.declared.Attention.{Attention}
 use Rattle.table.specs.declared.Aca.{Aca}
 use Rattle.table.specs.declared.Path as path
@@ -24,6 +22,9 @@ pub record AnswersAreOne : Type 0 where
   pub path-at : (t : Table) (p : ℕ) → One (pathAt t p)
   pub unit-at : (t : Table) (unit : ℕ) → One (unitAt t unit)
   pub is-attached : (t : Table) (unit : ℕ) → One (isAttached t unit)
+  pub bit-of : (map i : ℕ) → One (bitOf map i)
+  pub place-of : (paths : List path.Path) (count id : ℕ) → One (placeOf paths count id)
+  pub is-nothing : (a : Attention) → One (isNothing a)
   pub is-reset : (a : Attention) → One (isReset a)
   pub is-cleared : (a : Attention) → One (isCleared a)
   pub mark : (paths : List path.Path) (p : ℕ) (full : Bool) → One (markedIn paths p full)
@@ -44,7 +45,6 @@ pub record AnswersAreOne : Type 0 where
   pub bad-list : (ids : List ℕ) → One (badList ids)
   pub zero : One zeroTable
   pub new : (ids : List ℕ) (attached first : ℕ) → One (setupTable ids attached first)
-  pub is-no-task : (a : Task) → One (isNoTask a)
   pub has-aca : (aca : Aca) → One (hasAca aca)
   pub owned-by : (aca : Aca) (path : ℕ) → One (ownedBy aca path)
-  pub sound : (t : Table) → One (soundOf t)
+  pub aca-at : (units : List unit.Unit) (unit : ℕ) → One (acaAt units unit)

@@ -1,13 +1,26 @@
--- What a table means: the task that is live at a place, and sums over the live tasks.
-use Prim.Native.Nat.{ℕ}
+-- What a table means: its shape, the task that is live at a place, and sums over the live tasks.
+use Prim.Native.Nat.{ℕ, _<_, _^_}
+use mathlib.Core.Path.{_≡_}
 use mathlib.Core.Bool.{cond}
 use mathlib.Core.Option.{Option, none, some}
 use lib.Dec.{eqb}
+use lib.ListN.{length}
 use Rattle.task.specs.Index.{sum, one}
 use Rattle.task.specs.Map.{isLive}
 use Rattle.task.specs.declared.Task.{Task}
 use Rattle.table.specs.Tables.{taskAt}
 use Rattle.table.specs.declared.Table.{Table}
+
+-- ---- what the machine's types give: 64 records, 8 paths, 8 units, a map of 64 bits
+
+pub record Shaped (t : Table) : Type 0 where
+  pub map : t .live < 2 ^ 64
+  pub next : t .next < 2 ^ 64
+  pub paths : length (t .paths) ≡ 8
+  pub units : length (t .units) ≡ 8
+  pub tasks : length (t .tasks) ≡ 64
+
+-- ---- its tasks
 
 -- the task that is live in record i
 unfoldable pub at : Table → ℕ → Option Task

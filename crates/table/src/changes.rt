@@ -201,7 +201,7 @@ fn runs_in(live: u64, i: usize, a: Task) -> bool
 {
     if task::map::is_live(live, i) {
         let phase = a.phase;
-        return crate::sound::is_running(phase);
+        return task::is_running(phase);
     }
     false
 }

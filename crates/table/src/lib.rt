@@ -3,7 +3,6 @@
 pub mod changes;
 pub mod paths;
 pub mod setup;
-pub mod sound;
 pub mod units;
 
 use task::RECORDS;
@@ -44,13 +43,13 @@ pub struct Table {
     pub tasks: [Task; RECORDS],
 }
 
-// The table's limits, beside task::RECORDS; LAST_ARRIVAL is the last arrival number that a command can take, 2^64 -
-// 2.
+// The table's limits, beside task::RECORDS.
 pub const PATHS: usize = 8;
 
-// The same as a count of paths, and the places of paths, are kept.
-pub(crate) const MOST_PATHS: u8 = PATHS as u8;
+// The same limit as a byte, in which a table counts its paths and names their places.
+pub const MOST_PATHS: u8 = PATHS as u8;
 
 pub const UNITS: usize = 8;
 
+// The last arrival number that a command can take: 2^64 - 2.
 pub const LAST_ARRIVAL: u64 = 0xffff_ffff_ffff_fffe;

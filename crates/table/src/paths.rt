@@ -20,7 +20,7 @@ pub(crate) fn no_path() -> Path
 
 // Whether bit i of a map of paths or units is 1; there are as many of the one as of the other, and none past the
 // last.
-pub(crate) fn bit_of(map: u8, i: usize) -> bool
+pub fn bit_of(map: u8, i: usize) -> bool
     ensures { λ r. ⌜ r ≡ Tables.bitOf map i ⌝ }
 {
     if i >= PATHS {
@@ -29,7 +29,7 @@ pub(crate) fn bit_of(map: u8, i: usize) -> bool
     (map >> i) % 2 == 1
 }
 
-pub(crate) fn is_nothing(a: Attention) -> bool
+pub fn is_nothing(a: Attention) -> bool
     ensures { λ r. ⌜ r ≡ isNothing a ⌝ }
 {
     match a {
@@ -92,7 +92,7 @@ fn with_cleared_attention(a: Path) -> Path
 }
 
 // The place of an id among the first `count` of the paths, or 8.
-pub(crate) fn place_of(paths: [Path; PATHS], count: u8, id: u32) -> usize
+pub fn place_of(paths: [Path; PATHS], count: u8, id: u32) -> usize
     ensures { λ r. ⌜ r ≡ placeOf paths count id ⌝ }
 {
     let count = count as usize;

@@ -36,7 +36,7 @@ pub fn owned_by(aca: Aca, path: u8) -> bool
 }
 
 // The ACA of a unit, and none past the end.
-pub(crate) fn aca_at(units: [Unit; UNITS], unit: u8) -> Aca
+pub fn aca_at(units: [Unit; UNITS], unit: u8) -> Aca
     ensures { λ r. ⌜ r ≡ acaAt units unit ⌝ }
 {
     let u = unit as usize;

@@ -5,6 +5,9 @@ use Rattle.wire.proofs.Unique.{determined}
 pub answers-are-one : AnswersAreOne
 answers-are-one = record {
   no-task = λ _ _. determined;
+  is-aca = λ _ _ _. determined;
+  is-waiting = λ _ _ _. determined;
+  is-running = λ _ _ _. determined;
   lowest-free = λ _ _ _. determined;
   live-count = λ _ _ _. determined;
   is-live = λ _ _ _ _. determined;

@@ -1,7 +1,7 @@
 // A task's record, the map of live records, which tasks a selection picks, and the scan of lent records. It knows no
 // message and no table.
 ghost use mathlib.Core.Path.{_≡_};
-ghost use Rattle.task.specs.Tasks.{noTask, kindNumber, phaseNumber};
+ghost use Rattle.task.specs.Tasks.{noTask, kindNumber, phaseNumber, isAca, isWaiting, isRunning};
 
 pub mod map;
 pub mod scan;
@@ -76,5 +76,36 @@ pub(crate) fn phase_number(p: Phase) -> u8
         Phase::Waiting => 0,
         Phase::Running => 1,
         Phase::Unconfirmed => 2,
+    }
+}
+
+pub fn is_aca(k: Kind) -> bool
+    ensures { λ r. ⌜ r ≡ isAca k ⌝ }
+{
+    match k {
+        Kind::Aca => true,
+        Kind::Head => false,
+        Kind::Ordered => false,
+        Kind::Simple => false,
+    }
+}
+
+pub fn is_waiting(p: Phase) -> bool
+    ensures { λ r. ⌜ r ≡ isWaiting p ⌝ }
+{
+    match p {
+        Phase::Waiting => true,
+        Phase::Running => false,
+        Phase::Unconfirmed => false,
+    }
+}
+
+pub fn is_running(p: Phase) -> bool
+    ensures { λ r. ⌜ r ≡ isRunning p ⌝ }
+{
+    match p {
+        Phase::Waiting => false,
+        Phase::Running => true,
+        Phase::Unconfirmed => false,
     }
 }

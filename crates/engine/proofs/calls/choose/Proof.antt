@@ -5,8 +5,8 @@ use Rattle.engine.proofs.Calling.{gates, is-found, not-found, picks, ch
 use Rattle.engine.proofs.calls.choose.Statement.{statement}
 use Rattle.engine.proofs.calls.choose.Tie as tie
 
-sound-requires : tie.Need-sound-requires
-sound-requires c κs = search needs
+is-sound-requires : tie.Need-is-sound-requires
+is-sound-requires c κs = search needs
 
 reject-requires : tie.Need-reject-requires
 reject-requires c κs = search needs
@@ -76,7 +76,7 @@ pub choose-spec : {M : Type 1} → statement M
 choose-spec =
     tie.close
     (tie.spec
-    sound-requires
+    is-sound-requires
     reject-requires
     returns
     is-attached-requires

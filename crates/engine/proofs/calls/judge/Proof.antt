@@ -5,8 +5,8 @@ use Rattle.engine.proofs.Calling.{gates, picks, judged}
 use Rattle.engine.proofs.calls.judge.Statement.{statement}
 use Rattle.engine.proofs.calls.judge.Tie as tie
 
-sound-requires : tie.Need-sound-requires
-sound-requires c κs = search needs
+is-sound-requires : tie.Need-is-sound-requires
+is-sound-requires c κs = search needs
 
 reject-requires : tie.Need-reject-requires
 reject-requires c κs = search needs
@@ -70,7 +70,7 @@ pub judge-spec : {M : Type 1} → statement M
 judge-spec =
     tie.close
     (tie.spec
-    sound-requires
+    is-sound-requires
     reject-requires
     returns
     reject-requires-2

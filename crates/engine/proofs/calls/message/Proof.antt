@@ -8,8 +8,8 @@ use Rattle.engine.proofs.Calling.{planHeard, unread, read-by, carries-o
 use Rattle.engine.proofs.calls.message.Statement.{statement}
 use Rattle.engine.proofs.calls.message.Tie as tie
 
-sound-requires : tie.Need-sound-requires
-sound-requires c κs = search needs
+is-sound-requires : tie.Need-is-sound-requires
+is-sound-requires c κs = search needs
 
 heard-requires : tie.Need-heard-requires
 heard-requires c κs = search needs
@@ -108,13 +108,13 @@ returns c =
     (λ w. carries-out t pl e f (w .1 .given .1) (w .4 ∙ w .3 .ensures))
     (⊎-elim (λ w. carries-out t pl e f (w .1 .given .1) (w .4 ∙ w .3 .ensures)) (λ w. carries-out t pl e f (w .1 .given .1) (w .4 ∙ w .3 .ensures))))
     (h .match2 .came) in
-    answers (carries t _ _ (s .sound .ensures) (p .0 ∙ g .before .heard .ensures) (p .1) u (c .before .sender-of .ensures) (c .reply-path .ensures)) (c .before .before .before .before .reply-to .ensures)
+    answers (carries t _ _ (s .is-sound .ensures) (p .0 ∙ g .before .heard .ensures) (p .1) u (c .before .sender-of .ensures) (c .reply-path .ensures)) (c .before .before .before .before .reply-to .ensures)
 
 pub message-spec : {M : Type 1} → statement M
 message-spec =
     tie.close
     (tie.spec
-    sound-requires
+    is-sound-requires
     heard-requires
     enum-known-asked
     refuse-requires

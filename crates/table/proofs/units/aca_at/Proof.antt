@@ -1,6 +1,6 @@
 -- `units::aca_at` meets its contract: past the end there is no ACA. Assumes nothing.
 use borrow.Author.Needs.{needs}
-use Rattle.table.proofs.Checking.{no-aca}
+use Rattle.table.proofs.Changing.{no-aca}
 use Rattle.table.proofs.units.aca_at.Statement.{statement}
 use Rattle.table.proofs.units.aca_at.Tie as tie
 

@@ -1,6 +1,6 @@
 -- `units::owned_by` meets its contract, with an owner and with none. Assumes nothing.
 use borrow.Author.Needs.{needs}
-use Rattle.table.proofs.Checking.{owner-asked}
+use Rattle.table.proofs.Changing.{owner-asked}
 use Rattle.table.proofs.units.owned_by.Statement.{statement}
 use Rattle.table.proofs.units.owned_by.Tie as tie
 

@@ -1,0 +1,5 @@
+-- The laws that the crates above cite; the cases of this crate's own functions.
+pub mod Exact
+pub mod Keeps
+pub mod Unique
+mod Checking
