@@ -71,9 +71,9 @@ fn say_reply(r: Reply) {
 }
 
 // A start in the words of a transcript, and the offset that is handed back.
-fn say_started(arrival: u64, offset: u32) {
+fn say_started(arrival: u64, offset: u64) {
     counted(b"started ", arrival);
-    counted_if(b" offset ", offset as u64);
+    counted_if(b" offset ", offset);
 }
 
 // An answer in the words of a transcript, and `ready` for a setup.

@@ -21,6 +21,7 @@ use table::Unit;
 use task::Kind;
 use task::Phase;
 use task::RECORDS;
+use task::Sequel;
 use task::Task;
 use task::map::is_live;
 use wire::fields::byte_at;
@@ -119,6 +120,15 @@ fn phase_word(p: Phase) {
     }
 }
 
+// A record's position, where it is not zero: bytes transferred while the task waits to be confirmed, else an offset.
+fn position_word(p: Phase, position: u64) {
+    match p {
+        Phase::Waiting => counted_if(b" offset ", position),
+        Phase::Running => counted_if(b" offset ", position),
+        Phase::Unconfirmed => counted_if(b" transferred ", position),
+    }
+}
+
 // A record's path, tag, unit, kind, phase and arrival number; what it keeps for CONFIRM, where that is not zero.
 fn task_fields(a: Task) {
     counted(b" path ", a.path as u64);
@@ -130,9 +140,9 @@ fn task_fields(a: Task) {
     let phase = a.phase;
     phase_word(phase);
     crate::print::number(a.arrival);
-    word_if(b" confirm", a.confirm);
-    counted_if(b" transferred ", a.transferred);
-    counted_if(b" offset ", a.offset as u64);
+    let sequel = a.sequel;
+    word_if(b" confirm", task::has_confirm(sequel));
+    position_word(phase, a.position);
 }
 
 // The record at a place, where it is live or not all zero.
@@ -353,22 +363,30 @@ fn placed_with(a: Task, field: u8, value: u8) -> Task {
     }
 }
 
-// The record with its bytes transferred, its offset or its CONFIRM set.
+// With CONFIRM or without.
+fn sequel_of(confirm: bool) -> Sequel {
+    if confirm {
+        return Sequel::Confirm;
+    }
+    Sequel::End
+}
+
+// The record with its bytes transferred, its offset or its CONFIRM set. The first two are one field.
 fn kept_with(a: Task, field: u8, value: u8) -> Task {
     if field == TRANSFERRED {
         return Task {
-            transferred: arrival(value),
+            position: arrival(value),
             ..a
         };
     }
     if field == OFFSET {
         return Task {
-            offset: value as u32,
+            position: value as u64,
             ..a
         };
     }
     Task {
-        confirm: value != 0,
+        sequel: sequel_of(value != 0),
         ..a
     }
 }

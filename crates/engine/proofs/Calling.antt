@@ -23,6 +23,7 @@ use Rattle.wire.specs.declared.message.Message.{Message}
 use Rattle.reply.specs.Calls.{leftOf}
 use Rattle.reply.specs.declared.Reply.{Reply}
 use Rattle.reply.specs.declared.Reply.the-variants as reply
+use Rattle.task.specs.Tasks.{offsetOf}
 use Rattle.task.specs.Selections.{waitingOn, acaWaitingOn, runningAs}
 use Rattle.task.specs.declared.scan.Pick.{Pick}
 use Rattle.task.specs.declared.select.Selection.{Selection}
@@ -183,7 +184,7 @@ pub chosen : (t : Table) (lun : ℕ) {u : unit.Unit} {s : Selection} {p : Pick} 
 unfolding choiceOn
 chosen t lun e h k = k ∙ rw (h, e)
 
-pub goes-next : {p q : Pick} → p ≡ q → verdict (answer.Started (p .task .offset) (p .task .arrival)) (p .at) 0 ≡ goes q
+pub goes-next : {p q : Pick} → p ≡ q → verdict (answer.Started (offsetOf (p .task)) (p .task .arrival)) (p .at) 0 ≡ goes q
 goes-next e = rw e
 
 pub starts : (t : Table) (lun : ℕ) {v : Verdict} {u : Table} → v ≡ startVerdict t lun → u ≡ started t (v .place) → settled v u ≡ startOf t lun

@@ -8,7 +8,7 @@ use mathlib.Core.Option.{Option, none, some}
 use lib.ListN.{length}
 use borrow.Author.Tests.{eq-eqb, eqb-true}
 use Rattle.wire.specs.Messages.{readOf}
-use Rattle.task.specs.Tasks.{restarts}
+use Rattle.task.specs.Tasks.{transferredOf, restarts}
 use Rattle.task.specs.Selections.{picks, named, numberedAs}
 use Rattle.task.specs.declared.Task.{Task}
 use Rattle.task.specs.declared.scan.Pick.{Pick}
@@ -42,7 +42,7 @@ module _ (t : Table) (path tag offset : ℕ) (complete : Bool) where
   Meant (answer.Started offset arrival) u = Unit {0}
   Meant (answer.Confirmed n) u = (complete ≡ true) × (i : ℕ) × (a : Task) × Awaited t path tag n i a × (at u i ≡ none) × OnlyRecord i t u
   Meant (answer.Restarted n) u =
-      (complete ≡ false) × (i : ℕ) × (a : Task) × Awaited t path tag n i a × (offset ≤ a .transferred) × (at u i ≡ some (restarts offset a)) × OnlyRecord i t u
+      (complete ≡ false) × (i : ℕ) × (a : Task) × Awaited t path tag n i a × (offset ≤ transferredOf a) × (at u i ≡ some (restarts offset a)) × OnlyRecord i t u
   Meant answer.Reset u = Unit {0}
   Meant (answer.Refused n) u = Unit {0}
 

@@ -164,7 +164,7 @@ module _ (t : Table) (g : Good t) (p : ℕ) (l : p < t .count) where
   ruling-keeps next tag lun flags (Report status sense sender) c = sender-keeps sender
   ruling-keeps next tag lun flags (Invalid sender) c = sender-keeps sender
   ruling-keeps next tag lun flags Accept c =
-      let l = senderAfter (t .paths) p ClearMark in accept-keeps (withPaths t l) p tag lun _ (flags .confirm) (sender-keeps ClearMark) (paths-may-come l (c refl))
+      let l = senderAfter (t .paths) p ClearMark in accept-keeps (withPaths t l) p tag lun _ _ (sender-keeps ClearMark) (paths-may-come l (c refl))
 
   -- what an order asks of the table
   abbrev asked : Order → Facts

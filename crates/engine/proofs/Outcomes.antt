@@ -11,6 +11,7 @@ use Rattle.wire.specs.declared.codes.Refusal.{Refusal}
 use Rattle.wire.specs.declared.codes.StatusByte.{StatusByte}
 use Rattle.wire.specs.declared.codes.Sense.{Sense}
 use Rattle.reply.specs.declared.Reply.the-variants as reply
+use Rattle.task.specs.Tasks.{offsetOf, transferredOf}
 use Rattle.task.specs.Selections.{runningOn, runningAs, numberedAs}
 use Rattle.task.specs.declared.scan.Pick.{Pick}
 use Rattle.wire.proofs.Table.{cond-ind}
@@ -59,7 +60,7 @@ module _ (P : Outcome → Type 0) (t : Table) (stops : (n : Refusal) → P (refu
   -- a start: refused, or the task that goes next runs
   pub each-start : (unit : ℕ)
       → (isAttached t unit ≡ true → pickOf t (runningOn unit) .found ≡ false → choiceOn t unit .found ≡ true
-      → P (out (started t (choiceOn t unit .at)) (answer.Started (choiceOn t unit .task .offset) (choiceOn t unit .task .arrival)) 0))
+      → P (out (started t (choiceOn t unit .at)) (answer.Started (offsetOf (choiceOn t unit .task)) (choiceOn t unit .task .arrival)) 0))
       → P (startOf t unit)
   unfolding startOf startVerdict
   each-start unit goes =
@@ -100,7 +101,7 @@ module _ (P : Outcome → Type 0) (t : Table) (stops : (n : Refusal) → P (refu
 module _ (P : Plan → Type 0) (own : Pick) (p tag : ℕ) (m : List ℕ) (offset : ℕ) (complete : Bool) where
   pub each-confirm : P (planned (answer.Reply (reply.Response tag Codes.invalidField)) change.Nothing records.Nothing) → P (refusing Codes.nothingToConfirm)
       → (isAwaited own ≡ true → complete ≡ true → P (planned (answer.Confirmed (own .task .arrival)) change.Nothing (records.End (numberedAs (own .task .arrival) p tag))))
-      → (isAwaited own ≡ true → complete ≡ false → offset ≤ own .task .transferred
+      → (isAwaited own ≡ true → complete ≡ false → offset ≤ transferredOf (own .task)
       → P (planned (answer.Restarted (own .task .arrival)) change.Nothing (records.Restart (own .at) offset)))
       → P (confirmPlan own p tag m offset complete)
   unfolding confirmPlan
@@ -108,7 +109,7 @@ module _ (P : Plan → Type 0) (own : Pick) (p tag : ℕ) (m : List ℕ) (offset
       cond-ind P (reservedSet m) (λ _. bad)
       (λ _. cond-ind P (not (isAwaited own)) (λ _. none)
       (λ w. cond-ind P complete (λ c. ends (not-false _ w) c)
-      (λ c. cond-ind P (ltb (own .task .transferred) offset) (λ _. bad) (λ l. again (not-false _ w) c (ltb-false _ offset l)))))
+      (λ c. cond-ind P (ltb (transferredOf (own .task)) offset) (λ _. bad) (λ l. again (not-false _ w) c (ltb-false _ offset l)))))
 
 -- the reply buffer as it is left, by the answer
 pub left-by : {defined o : Outcome} (buf : List ℕ) {left : List ℕ} {a : Answer} → Answers defined buf o left → o .answer ≡ a → left ≡ replied a buf

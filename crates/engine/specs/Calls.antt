@@ -16,6 +16,7 @@ use Rattle.wire.specs.declared.codes.Sense.{Sense}
 use Rattle.reply.specs.Calls.{leftOf}
 use Rattle.reply.specs.declared.Reply.{Reply}
 use Rattle.reply.specs.declared.Reply.the-variants as reply
+use Rattle.task.specs.Tasks.{offsetOf}
 use Rattle.task.specs.Selections.{runningOn, waitingOn, acaWaitingOn, runningAs}
 use Rattle.task.specs.declared.Task.{Task}
 use Rattle.task.specs.declared.scan.Pick.{Pick}
@@ -134,7 +135,7 @@ choiceOn t unit = pickOf t (mayGo (unitAt t unit .aca) unit)
 -- the arrival number is answered, and the offset to start at: the one named by the last restart, 0 for a task never
 -- restarted
 abbrev pub goes : Pick → Verdict
-goes p = verdict (answer.Started (p .task .offset) (p .task .arrival)) (p .at) 0
+goes p = verdict (answer.Started (offsetOf (p .task)) (p .task .arrival)) (p .at) 0
 
 unfoldable pub startVerdict : Table → ℕ → Verdict
 startVerdict t unit =

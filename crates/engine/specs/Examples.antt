@@ -10,6 +10,7 @@ use Rattle.reply.specs.Calls.{placed}
 use Rattle.task.specs.Tasks.{noTask, acceptedAs}
 use Rattle.task.specs.declared.Task.{Task}
 use Rattle.task.specs.declared.Kind.the-variants.{Aca, Simple}
+use Rattle.task.specs.declared.Sequel.the-variants.{End, Confirm}
 use Rattle.table.specs.Tables.{noPath, noUnit, accepted, started, finished}
 use Rattle.table.specs.declared.Table.{Table}
 use Rattle.table.specs.declared.Path as path
@@ -36,7 +37,7 @@ quiet = record {
 }
 
 abbrev pub queued : ℕ → Task
-queued k = acceptedAs k 0 (0x100 + k) 0 Simple false
+queued k = acceptedAs k 0 (0x100 + k) 0 Simple End
 
 -- n tasks of path 1, with tags and arrival numbers from k on
 unfoldable pub tasksFrom : ℕ → ℕ → List Task
@@ -124,8 +125,8 @@ examples =
     ∷ response quiet (command 1 0 3 1 zeros) 0xff  -- g
     ∷ check quiet (command 1 7 3 0 zeros) 0x05 0x25  -- h
     ∷ check quiet (command 1 0 3 0 (0x60 ∷ [])) 0x05 0x20  -- i
-    ∷ response (accepted quiet 0 5 0 Simple false) plain 0x04  -- j
-    ∷ accept (accepted quiet 1 5 0 Simple false) plain 2
+    ∷ response (accepted quiet 0 5 0 Simple End) plain 0x04  -- j
+    ∷ accept (accepted quiet 1 5 0 Simple End) plain 2
     ∷ check quiet (command 1 0 0 0 zeros) 0x05 0x49  -- k
     ∷ refuses quiet (unitReset []) 1  -- l
     ∷ response quiet (unitReset (0 ∷ [])) 0x00
@@ -186,7 +187,7 @@ confirm path new offset last = 0x83 ∷ 0x12 ∷ 0 ∷ 5 ∷ 0 ∷ 0 ∷ 0 ∷ p
 -- the tables on the way: tag 0005h with CONFIRM of paths 1 and 2 waits; that of path 1 runs; 16 bytes were
 -- transferred; it is to start again at 8
 unfoldable pub waits : Table
-waits = accepted (accepted quiet 0 5 0 Simple true) 1 5 0 Simple true
+waits = accepted (accepted quiet 0 5 0 Simple Confirm) 1 5 0 Simple Confirm
 
 unfoldable pub underway : Table
 underway = startOf waits 0 .table
@@ -242,7 +243,7 @@ owned = record {
 }
 
 unfoldable pub shared : Table
-shared = finished (started (accepted (accepted (accepted owned 0 5 0 Simple false) 1 5 0 Simple true) 1 6 1 Aca false) 1) 1 false 16
+shared = finished (started (accepted (accepted (accepted owned 0 5 0 Simple End) 1 5 0 Simple Confirm) 1 6 1 Aca End) 1) 1 false 16
 
 -- an order of path 2: S3P CODE, then LUN or TAG 2
 abbrev pub order : ℕ → List ℕ → List ℕ

@@ -17,7 +17,7 @@ use Rattle.wire.specs.declared.message.Message.the-variants.{AbortTask}
 use Rattle.reply.specs.Replies.{writableOf, bytesOf}
 use Rattle.reply.specs.Calls.{placed}
 use Rattle.reply.specs.declared.Reply.{Reply}
-use Rattle.task.specs.Tasks.{isUnconfirmed, restarts}
+use Rattle.task.specs.Tasks.{isUnconfirmed, offsetOf, transferredOf, restarts}
 use Rattle.task.specs.Next.{Next}
 use Rattle.task.specs.declared.Task.{Task}
 use Rattle.task.specs.declared.scan.Pick.{Pick}
@@ -86,7 +86,7 @@ pub record Goes (t : Table) (unit offset arrival : ℕ) (after : Table) : Type 0
   pub found : pick .found ≡ true
   pub next : Next (t .live) (mayGo (unitAt t unit .aca) unit) (t .tasks) (length (t .tasks)) pick
   pub number : pick .task .arrival ≡ arrival
-  pub offset-named : pick .task .offset ≡ offset
+  pub offset-named : offsetOf (pick .task) ≡ offset
   pub runs : after ≡ started t (pick .at)
 
 abbrev pub StartsNext : Type 0
@@ -121,7 +121,7 @@ pub record ConfirmsItsOwn : Type 0 where
       → (complete ≡ true) × (i : ℕ) × (a : Task) × Awaited t path tag arrival i a × (at (o .table) i ≡ none) × OnlyRecord i t (o .table) × (left ≡ buf)
   pub restarted : (t : Table) (m buf : List ℕ) (o : Outcome) (left : List ℕ) (path tag offset arrival : ℕ) (complete : Bool)
       → Good t → MessageContract t m buf o left → askedOf (readOf m) ≡ By path tag (Confirm offset complete) → o .answer ≡ answer.Restarted arrival
-      → (complete ≡ false) × (i : ℕ) × (a : Task) × Awaited t path tag arrival i a × (offset ≤ a .transferred) × (at (o .table) i ≡ some (restarts offset a))
+      → (complete ≡ false) × (i : ℕ) × (a : Task) × Awaited t path tag arrival i a × (offset ≤ transferredOf a) × (at (o .table) i ≡ some (restarts offset a))
       × OnlyRecord i t (o .table) × (left ≡ buf)
 
 -- ---- bytes past the specified length are not read

@@ -123,8 +123,8 @@ pub fn message(mut t: Table, m: &[u8], reply: &mut [u8]) -> Outcome
             tag,
             lun,
             kind,
-            confirm,
-        } => t = t.accept(path, tag, lun, kind, confirm),
+            sequel,
+        } => t = t.accept(path, tag, lun, kind, sequel),
         RecordChange::End(s) => t = t.end(s),
         RecordChange::Restart { place, offset } => t = t.restart(place, offset),
     }
@@ -189,7 +189,7 @@ fn choose(t: Table, unit: u8) -> Verdict
     let a = p.task;
     Verdict {
         answer: Answer::Started {
-            offset: a.offset,
+            offset: a.position,
             arrival: a.arrival,
         },
         place: p.at,

@@ -10,11 +10,13 @@ use lib.ListN.{length, getD}
 use lib.Dec.{eqb}
 use borrow.Author.Tests.{eq-eqb, eqb-true}
 use Rattle.task.specs.Index.{one}
-use Rattle.task.specs.Tasks.{kindNumber, phaseNumber}
+use Rattle.task.specs.Tasks.{hasConfirm, kindNumber, phaseNumber}
 use Rattle.task.specs.declared.Kind.{Kind}
 use Rattle.task.specs.declared.Kind.the-variants as kind
 use Rattle.task.specs.declared.Phase.{Phase}
 use Rattle.task.specs.declared.Phase.the-variants as phase
+use Rattle.task.specs.declared.Sequel.{Sequel}
+use Rattle.task.specs.declared.Sequel.the-variants as sequel
 use Rattle.task.specs.declared.Task.{Task}
 use Rattle.task.proofs.Ways.{never, both}
 use Rattle.task.proofs.Places.{lt-or-le}
@@ -49,31 +51,34 @@ phase-back phase.Waiting = refl
 phase-back phase.Running = refl
 phase-back phase.Unconfirmed = refl
 
-confirm-back : (b : Bool) → eqb (one b) 1 ≡ b
-confirm-back true = refl
-confirm-back false = refl
+sequelFrom : Bool → Sequel
+sequelFrom b = cond b sequel.Confirm sequel.End
+
+sequel-back : (s : Sequel) → sequelFrom (eqb (one (hasConfirm s)) 1) ≡ s
+unfolding sequelFrom
+sequel-back sequel.End = refl
+sequel-back sequel.Confirm = refl
 
 abbrev fields : Task → List ℕ
 fields a =
-    a .arrival ∷ a .transferred ∷ a .offset ∷ a .tag ∷ a .path ∷ a .unit ∷ kindNumber (a .kind) ∷ phaseNumber (a .phase) ∷ one (a .confirm) ∷ []
+    a .arrival ∷ a .position ∷ a .tag ∷ a .path ∷ a .unit ∷ kindNumber (a .kind) ∷ phaseNumber (a .phase) ∷ one (hasConfirm (a .sequel)) ∷ []
 
 fields-eq : (a b : Task) → fields a ≡ fields b → a ≡ b
 fields-eq a b e =
     let at : (k : ℕ) → getD (fields a) k 0 ≡ getD (fields b) k 0 = λ k. ap (λ (l : List ℕ). getD l k 0) e in
-    let k : a .kind ≡ b .kind = sym (kind-back (a .kind)) ∙ ap kindFrom (at 6) ∙ kind-back (b .kind) in
-    let p : a .phase ≡ b .phase = sym (phase-back (a .phase)) ∙ ap phaseFrom (at 7) ∙ phase-back (b .phase) in
-    let c : a .confirm ≡ b .confirm = sym (confirm-back (a .confirm)) ∙ ap (λ (n : ℕ). eqb n 1) (at 8) ∙ confirm-back (b .confirm) in
+    let k : a .kind ≡ b .kind = sym (kind-back (a .kind)) ∙ ap kindFrom (at 5) ∙ kind-back (b .kind) in
+    let p : a .phase ≡ b .phase = sym (phase-back (a .phase)) ∙ ap phaseFrom (at 6) ∙ phase-back (b .phase) in
+    let s : a .sequel ≡ b .sequel = sym (sequel-back (a .sequel)) ∙ ap (λ (n : ℕ). sequelFrom (eqb n 1)) (at 7) ∙ sequel-back (b .sequel) in
     λ i.
     record {
       arrival = at 0 i;
-      transferred = at 1 i;
-      offset = at 2 i;
-      tag = at 3 i;
-      path = at 4 i;
-      unit = at 5 i;
+      position = at 1 i;
+      tag = at 2 i;
+      path = at 3 i;
+      unit = at 4 i;
       kind = k i;
       phase = p i;
-      confirm = c i;
+      sequel = s i;
     }
 
 sameList : List ℕ → List ℕ → Bool
@@ -128,7 +133,7 @@ noted-path n p effect l =
     omega (
       arith,
       noted-total from n effect l,
-      total-ext (λ e. from (afterEffect n effect e)) from (λ e. effect-ways (λ (x : Entry). from x ≡ from e) n effect e refl (λ _ _ _ _. refl) (λ _ _. refl)) l,
+      total-ext (λ e. from (afterEffect n effect e)) from (λ e. effect-ways (λ (x : Entry). from x ≡ from e) n effect e refl (λ _ _ _. refl) (λ _ _. refl)) l,
       accepted-path p effect,
     )
 

@@ -16,9 +16,10 @@ use Rattle.wire.specs.declared.codes.Refusal.{Refusal}
 use Rattle.wire.specs.declared.codes.StatusByte.{StatusByte}
 use Rattle.wire.specs.declared.codes.Sense.{Sense}
 use Rattle.wire.specs.declared.message.Flags.{Flags}
-use Rattle.task.specs.Tasks.{isRunning, runs, awaits, restarts}
+use Rattle.task.specs.Tasks.{isRunning, hasConfirm, runs, awaits, restarts}
 use Rattle.task.specs.Selections.{picks, everyTask, named, numberedAs, runningAs}
 use Rattle.task.specs.declared.Kind.{Kind}
+use Rattle.task.specs.declared.Sequel.{Sequel}
 use Rattle.task.specs.declared.Task.{Task}
 use Rattle.task.specs.declared.select.Selection.{Selection}
 use Rattle.wire.proofs.Table.{cond-ind}
@@ -44,7 +45,7 @@ use Rattle.rules.specs.declared.change.SenderChange.the-variants.{Stays, SetMar
 use Rattle.rules.specs.declared.command.Ruling.{Ruling}
 use Rattle.rules.specs.declared.command.Ruling.the-variants.{Refuse, Respond, Report, Invalid, Accept}
 use Rattle.rules.specs.declared.manage.Order.{Order}
-use Rattle.plan.specs.Plans.{askedOf, kindOf, ruled, orderPlan, isAwaited, confirmPlan, senderAfter, pathsAfter, unitsAfter}
+use Rattle.plan.specs.Plans.{askedOf, kindOf, sequelOf, ruled, orderPlan, isAwaited, confirmPlan, senderAfter, pathsAfter, unitsAfter}
 use Rattle.engine.specs.Calls.{refused, withParts, withRecords, carriedOut, planAt, messageOf, choiceOn, startOf, finishOf, totalResetOf}
 use Rattle.plan.specs.declared.Request.{Request}
 use Rattle.plan.specs.declared.Request.the-variants.{Command, Manage, Confirm}
@@ -87,9 +88,9 @@ module _ (t : Table) where
   unfolding fateOf
   sure-nothing = calm Nothing t refl (λ _. refl)
 
-  sure-accepts : (p tag lun : ℕ) (kind : Kind) (confirm : Bool) → Sure (Accepts (newTask t p tag lun kind confirm)) t
+  sure-accepts : (p tag lun : ℕ) (kind : Kind) (sequel : Sequel) → Sure (Accepts (newTask t p tag lun kind sequel)) t
   unfolding fateOf
-  sure-accepts p tag lun kind confirm = record {
+  sure-accepts p tag lun kind sequel = record {
     next = λ a e. ap (λ (b : Task). b .arrival) (sym (same-element refl e));
     live = λ b e. absurd (never e refl);
   }
@@ -186,28 +187,28 @@ module _ (t : Table) (g : Good t) where
   }
 
   -- the mark goes, and the command comes
-  done-coming : (p tag lun : ℕ) (kind : Kind) (confirm : Bool) → hasRoom t ≡ true
-      → Done (Accepts (newTask t p tag lun kind confirm)) t (accepted (withParts t (change.OfSender p ClearMark)) p tag lun kind confirm)
+  done-coming : (p tag lun : ℕ) (kind : Kind) (sequel : Sequel) → hasRoom t ≡ true
+      → Done (Accepts (newTask t p tag lun kind sequel)) t (accepted (withParts t (change.OfSender p ClearMark)) p tag lun kind sequel)
   unfolding hasRoom fateOf
-  done-coming p tag lun kind confirm room =
+  done-coming p tag lun kind sequel room =
       let u : Table = withParts t (change.OfSender p ClearMark) in
-      let o : OnlyTasks u (accepted u p tag lun kind confirm) = accepted-only u p tag lun kind confirm in
+      let o : OnlyTasks u (accepted u p tag lun kind sequel) = accepted-only u p tag lun kind sequel in
       record {
         count = only-count u _ o;
         ids = λ k. only-ids u _ o k ∙ done-parts (change.OfSender p ClearMark) .ids k;
-        next = ap (λ (x : Table). x .next) (accepted-put u p tag lun kind confirm room);
-        weighs = λ f. omega (arith, accept-weighs f u p tag lun kind confirm (shaped-sender p ClearMark) room, done-parts (change.OfSender p ClearMark) .weighs f);
-        sure = sure-accepts t p tag lun kind confirm;
+        next = ap (λ (x : Table). x .next) (accepted-put u p tag lun kind sequel room);
+        weighs = λ f. omega (arith, accept-weighs f u p tag lun kind sequel (shaped-sender p ClearMark) room, done-parts (change.OfSender p ClearMark) .weighs f);
+        sure = sure-accepts t p tag lun kind sequel;
       }
 
   done-ruled : (p tag lun : ℕ) (flags : Flags) (r : Ruling) → (r ≡ Accept → hasRoom t ≡ true)
-      → Done (commandEffect p tag lun (kindOf (flags .queue)) (flags .confirm) (ruled (t .next) p tag lun flags r .answer)) t (carriedOut t (ruled (t .next) p tag lun flags r))
+      → Done (commandEffect p tag lun (kindOf (flags .queue)) (sequelOf (flags .confirm)) (ruled (t .next) p tag lun flags r .answer)) t (carriedOut t (ruled (t .next) p tag lun flags r))
   unfolding carriedOut withRecords
   done-ruled p tag lun flags (Refuse n) room = done-nothing t
   done-ruled p tag lun flags (Respond code sender) room = done-parts (change.OfSender p sender)
   done-ruled p tag lun flags (Report status sense sender) room = done-parts (change.OfSender p sender)
   done-ruled p tag lun flags (Invalid sender) room = done-parts (change.OfSender p sender)
-  done-ruled p tag lun flags Accept room = done-coming p tag lun (kindOf (flags .queue)) (flags .confirm) (room refl)
+  done-ruled p tag lun flags Accept room = done-coming p tag lun (kindOf (flags .queue)) (sequelOf (flags .confirm)) (room refl)
 
   -- ---- an order
 
@@ -289,7 +290,7 @@ module _ (t : Table) (g : Good t) where
         (λ b. cond-ind (λ (x : Fate). endsByStatus x ≡ true → b .arrival ≡ a .arrival) (eqb (b .arrival) arrival) (λ y _. eqb-true _ _ y ∙ sym numbered-so) (λ _ e. absurd (never e refl)))
 
     -- a live task with that number is that one
-    same-fate : a .confirm ≡ false → EndsPicked t (Finishes arrival transferred) (runningAs arrival) byStatus
+    same-fate : hasConfirm (a .sequel) ≡ false → EndsPicked t (Finishes arrival transferred) (runningAs arrival) byStatus
     unfolding fateOf picks
     same-fate plain i b below here = elim (either-way (eqb (b .arrival) arrival)) [
       | inl y ↦
@@ -367,7 +368,7 @@ module _ (ids : List ℕ) (t : Table) (g : Good t) (listed : t .count ≡ length
   unfolding planAt lookupOf
   done-planned m path tag (Command lun flags) l =
       let p : ℕ = pathOf t path in
-      subst (λ (q : ℕ). Done (commandEffect q tag lun (kindOf (flags .queue)) (flags .confirm) (planAt t m p tag (Command lun flags) .answer)) t (carriedOut t (planAt t m p tag (Command lun flags)))) (sym (place path l))
+      subst (λ (q : ℕ). Done (commandEffect q tag lun (kindOf (flags .queue)) (sequelOf (flags .confirm)) (planAt t m p tag (Command lun flags) .answer)) t (carriedOut t (planAt t m p tag (Command lun flags)))) (sym (place path l))
       (done-ruled t g p tag lun flags (deciding (factsOf t p tag lun) flags m .gives) (accept-has-room t p tag lun flags m))
   done-planned m path tag (Manage o) l =
       let p : ℕ = pathOf t path in

@@ -6,7 +6,7 @@ use mathlib.Core.Bool.{true, _||_}
 use mathlib.Core.List.{List, [], _∷_, _++_}
 use mathlib.Core.Option.{Option, none, some}
 use lib.Dec.{eqb}
-use Rattle.task.specs.Tasks.{inPhase}
+use Rattle.task.specs.Tasks.{hasConfirm, inPhase}
 use Rattle.task.specs.Selections.{picks}
 use Rattle.task.specs.declared.Phase.{Phase}
 use Rattle.task.specs.declared.Phase.the-variants.{Waiting, Running, Unconfirmed}
@@ -17,30 +17,30 @@ use Rattle.history.specs.Ledger.{Entry, isOpen, newEntry, afterFate, aft
 
 -- ---- the fate of a command
 
--- a fact about a command's fate, from each sort of fate: what goes on is the command still, save its phase, bytes and
--- offset
-fate-ways : (P : Fate → Type 0) (effect : Effect) (a : Task) → P stays → ((phase : Phase) (transferred offset : ℕ) → P (becomes (inPhase phase transferred offset a)))
+-- a fact about a command's fate, from each sort of fate: what goes on is the command still, save its phase and
+-- position
+fate-ways : (P : Fate → Type 0) (effect : Effect) (a : Task) → P stays → ((phase : Phase) (position : ℕ) → P (becomes (inPhase phase position a)))
     → ((how : Label) → P (ended how)) → P (fateOf effect a)
 unfolding fateOf
 fate-ways P Nothing a s b d = s
 fate-ways P (Accepts c) a s b d = s
-fate-ways P (Starts n) a s b d = cond-ind P (eqb (a .arrival) n) (λ _. b Running _ _) (λ _. s)
+fate-ways P (Starts n) a s b d = cond-ind P (eqb (a .arrival) n) (λ _. b Running _) (λ _. s)
 fate-ways P (Finishes n transferred) a s b d =
-    cond-ind P (eqb (a .arrival) n) (λ _. cond-ind P (a .confirm) (λ _. b Unconfirmed transferred _) (λ _. d byStatus)) (λ _. s)
-fate-ways P (Restarts r offset) a s b d = cond-ind P (picks r a) (λ _. b Waiting _ offset) (λ _. s)
+    cond-ind P (eqb (a .arrival) n) (λ _. cond-ind P (hasConfirm (a .sequel)) (λ _. b Unconfirmed transferred) (λ _. d byStatus)) (λ _. s)
+fate-ways P (Restarts r offset) a s b d = cond-ind P (picks r a) (λ _. b Waiting offset) (λ _. s)
 fate-ways P (Ends r how) a s b d = cond-ind P (picks r a) (λ _. d how) (λ _. s)
 
 -- a fact about an entry after event n, from each way that it may go
 pub effect-ways : (P : Entry → Type 0) (n : ℕ) (effect : Effect) (e : Entry) → P e
-    → ((phase : Phase) (transferred offset : ℕ) → isOpen e ≡ true
-    → P (record { task = inPhase phase transferred offset (e .task); accepted = e .accepted; endings = e .endings }))
+    → ((phase : Phase) (position : ℕ) → isOpen e ≡ true
+    → P (record { task = inPhase phase position (e .task); accepted = e .accepted; endings = e .endings }))
     → ((how : Label) → fateOf effect (e .task) ≡ ended how
     → P (record { task = e .task; accepted = e .accepted; endings = e .endings ++ (record { event = n; how = how } ∷ []) }))
     → P (afterEffect n effect e)
 unfolding afterEffect
 effect-ways P n effect e s b d =
     fate-ways (λ (x : Fate). fateOf effect (e .task) ≡ x → P (afterFate n x e)) effect (e .task) (λ _. s)
-    (λ phase transferred offset _. cond-ind P (isOpen e) (b phase transferred offset) (λ _. s))
+    (λ phase position _. cond-ind P (isOpen e) (b phase position) (λ _. s))
     (λ how f. cond-ind P (isOpen e || countsAsStatus how) (λ _. d how f) (λ _. s)) refl
 
 -- ---- the command that an event accepts, if it does

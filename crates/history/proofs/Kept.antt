@@ -203,7 +203,7 @@ module _ (ids : List ℕ) (l : List Entry) (t u : Table) (T : Tied ids l t) (g :
         arith,
         noted-total (λ e. one (hasNumber m e)) n effect l,
         total-ext (λ e. one (hasNumber m (afterEffect n effect e))) (λ e. one (hasNumber m e))
-            (λ e. effect-ways (λ (x : Entry). one (hasNumber m x) ≡ one (hasNumber m e)) n effect e refl (λ _ _ _ _. refl) (λ _ _. refl)) l,
+            (λ e. effect-ways (λ (x : Entry). one (hasNumber m x) ≡ one (hasNumber m e)) n effect e refl (λ _ _ _. refl) (λ _ _. refl)) l,
       ) in
       let anew : Entry → ℕ = λ e. one (again (fateOf effect (e .task)) (e .endings)) in
       record {

@@ -13,6 +13,7 @@ use Rattle.wire.specs.declared.message.Flags.{Flags}
 use Rattle.task.specs.Map.{lowestFree}
 use Rattle.task.specs.Selections.{picks, named}
 use Rattle.task.specs.declared.Kind.{Kind}
+use Rattle.task.specs.declared.Sequel.{Sequel}
 use Rattle.task.specs.declared.Task.{Task}
 use Rattle.task.specs.declared.scan.Pick.{Pick}
 use Rattle.task.specs.declared.select.Selection.{Selection}
@@ -50,15 +51,15 @@ Holds i a t = at t i ≡ some a
 -- a change of the records ends nothing, or does not pick the task; or it is about another record
 abbrev Spares : ℕ → Task → RecordChange → Type 0
 Spares i a records.Nothing = Unit {0}
-Spares i a (records.Accept path tag lun kind confirm) = Unit {0}
+Spares i a (records.Accept path tag lun kind sequel) = Unit {0}
 Spares i a (records.End s) = picks s a ≡ false
 Spares i a (records.Restart place offset) = i ≡ place → ⊥
 
 module _ (i : ℕ) (a : Task) (l : i < 64) where
   -- a new task goes to a free record
-  accept-leaves : (t : Table) (path tag unit : ℕ) (kind : Kind) (confirm : Bool) → Holds i a t → Holds i a (accepted t path tag unit kind confirm)
+  accept-leaves : (t : Table) (path tag unit : ℕ) (kind : Kind) (sequel : Sequel) → Holds i a t → Holds i a (accepted t path tag unit kind sequel)
   unfolding accepted
-  accept-leaves t path tag unit kind confirm e =
+  accept-leaves t path tag unit kind sequel e =
       cond-ind (Holds i a) (hasRoom t)
       (λ _. at-put-other t (lowestFree (t .live)) _ i (λ k. not-both (at-free t (rw k at l)) (rw k at e)) ∙ e) (λ _. e)
 
@@ -69,7 +70,7 @@ module _ (i : ℕ) (a : Task) (l : i < 64) where
     records-leave : (c : Change) (d : RecordChange) → Spares i a d → Holds i a (withRecords (withParts t c) d)
     unfolding withRecords endedBy
     records-leave c records.Nothing s = parts-leave c
-    records-leave c (records.Accept path tag lun kind confirm) s = accept-leaves (withParts t c) path tag lun kind confirm (parts-leave c)
+    records-leave c (records.Accept path tag lun kind sequel) s = accept-leaves (withParts t c) path tag lun kind sequel (parts-leave c)
     records-leave c (records.End ended) s = same-at (endedBy t ended) _ _ i ∙ ended-to t ended h l e s
     records-leave c (records.Restart place offset) s = altered-other (withParts t c) place _ i s ∙ parts-leave c
 

@@ -22,6 +22,7 @@ use Rattle.reply.specs.declared.Reply.the-variants as reply
 use Rattle.task.specs.Tasks.{acceptedAs}
 use Rattle.task.specs.Selections.{picks, numberedAs}
 use Rattle.task.specs.declared.Kind.{Kind}
+use Rattle.task.specs.declared.Sequel.{Sequel}
 use Rattle.task.specs.declared.Task.{Task}
 use Rattle.task.specs.declared.select.Selection.{Selection}
 use Rattle.wire.proofs.Table.{cond-ind}
@@ -29,7 +30,7 @@ use Rattle.task.proofs.Ways.{never, both}
 use Rattle.task.proofs.Places.{below-suc}
 use Rattle.task.proofs.Selecting.{meets}
 use Rattle.rules.specs.Management.{endsOf}
-use Rattle.plan.specs.Plans.{askedOf, kindOf, replyOf}
+use Rattle.plan.specs.Plans.{askedOf, kindOf, sequelOf, replyOf}
 use Rattle.rules.specs.declared.manage.Order.{Order}
 use Rattle.rules.specs.declared.manage.Order.the-variants.{AbortTask, AbortTaskSet, ClearTaskSet, ClearAca, UnitReset, TargetReset}
 use Rattle.plan.specs.declared.Request.{Request}
@@ -67,10 +68,10 @@ each-reply P nothing response status invalid (some (reply.Invalid t)) = invalid 
 
 module _ (P : Effect → Type 0) (nothing : P Nothing) where
   -- a command is accepted, and then waits
-  command-can : (p tag lun : ℕ) (kind : Kind) (confirm : Bool) → ((n : ℕ) → P (Accepts (acceptedAs n p tag lun kind confirm)))
-      → (a : Answer) → P (commandEffect p tag lun kind confirm a)
-  command-can p tag lun kind confirm accepts =
-      each-answer (λ a. P (commandEffect p tag lun kind confirm a)) nothing accepts (λ _. nothing) (λ _ _. nothing) (λ _. nothing) (λ _. nothing) nothing (λ _. nothing)
+  command-can : (p tag lun : ℕ) (kind : Kind) (sequel : Sequel) → ((n : ℕ) → P (Accepts (acceptedAs n p tag lun kind sequel)))
+      → (a : Answer) → P (commandEffect p tag lun kind sequel a)
+  command-can p tag lun kind sequel accepts =
+      each-answer (λ a. P (commandEffect p tag lun kind sequel a)) nothing accepts (λ _. nothing) (λ _ _. nothing) (λ _. nothing) (λ _. nothing) nothing (λ _. nothing)
 
   -- an order ends what it selects
   order-can : (p : ℕ) (o : Order) → P (Ends (endsOf p o) (byOrder o)) → (a : Answer) → P (orderEffect p o a)
@@ -95,7 +96,7 @@ AcceptsWaiting f = Waits (taken f)
 
 message-waiting : (ids : List ℕ) (q : Asked) (a : Answer) → AcceptsWaiting (messageEffect ids q a)
 message-waiting ids (Unread n) a = tt
-message-waiting ids (By path tag (Command lun flags)) a = command-can AcceptsWaiting tt (placeIn ids path) tag lun (kindOf (flags .queue)) (flags .confirm) (λ _. refl) a
+message-waiting ids (By path tag (Command lun flags)) a = command-can AcceptsWaiting tt (placeIn ids path) tag lun (kindOf (flags .queue)) (sequelOf (flags .confirm)) (λ _. refl) a
 message-waiting ids (By path tag (Manage o)) a = order-can AcceptsWaiting tt (placeIn ids path) o tt a
 message-waiting ids (By path tag (Confirm offset complete)) a = confirm-can AcceptsWaiting tt (placeIn ids path) tag offset complete (λ _. tt) (λ _. tt) a
 
@@ -117,7 +118,7 @@ abbrev SameCommand : Entry → Entry → Type 0
 SameCommand e d = (d .accepted ≡ e .accepted) × (waiting (d .task) ≡ waiting (e .task))
 
 effect-same : (n : ℕ) (f : Effect) (e : Entry) → SameCommand e (afterEffect n f e)
-effect-same n f e = effect-ways (SameCommand e) n f e (refl, refl) (λ _ _ _ _. (refl, refl)) (λ _ _. (refl, refl))
+effect-same n f e = effect-ways (SameCommand e) n f e (refl, refl) (λ _ _ _. (refl, refl)) (λ _ _. (refl, refl))
 
 -- ---- event by event: what holds before the first event, and is kept by each, holds at the end of the trace
 
@@ -169,7 +170,7 @@ module _ (ids : List ℕ) (h : List Told) where
     known-after : (e : Entry) → Known n e → Known (suc n) (afterEffect n (effectTold ids x) e)
     known-after e w =
         effect-ways (Known (suc n)) n (effectTold ids x) e (known-later w)
-        (λ phase transferred offset o. known-change (refl, refl) (each-empty _ (e .endings) o) w)
+        (λ phase position o. known-change (refl, refl) (each-empty _ (e .endings) o) w)
         (λ how f.
         known-change (refl, refl)
         (each-append _ (e .endings) _
@@ -288,7 +289,7 @@ own-message : (ids : List ℕ) (path tag : ℕ) (w : Request) (a : Answer) → m
     → EndsFrom (placeIn ids path) (messageEffect ids (By path tag w) a)
 own-message ids path tag (Command lun flags) a r =
     let p : ℕ = placeIn ids path in
-    command-can (EndsFrom p) (from-nothing p) p tag lun (kindOf (flags .queue)) (flags .confirm) (λ n. from-accept p _) a
+    command-can (EndsFrom p) (from-nothing p) p tag lun (kindOf (flags .queue)) (sequelOf (flags .confirm)) (λ n. from-accept p _) a
 own-message ids path tag (Manage o) a r =
     let p : ℕ = placeIn ids path in
     order-can (EndsFrom p) (from-nothing p) p o (from-end p (endsOf p o) (byOrder o) (own-order p o r)) a

@@ -69,7 +69,7 @@ EntryAt ids h k e = nth (ledger ids h) k ≡ some e
 
 -- a task as it is when its command is accepted
 abbrev pub waiting : Task → Task
-waiting a = acceptedAs (a .arrival) (a .path) (a .tag) (a .unit) (a .kind) (a .confirm)
+waiting a = acceptedAs (a .arrival) (a .path) (a .tag) (a .unit) (a .kind) (a .sequel)
 
 -- an entry's command was accepted by an event of the trace, the one whose number stands in the entry
 pub record Came (ids : List ℕ) (h : List Told) (e : Entry) : Type 0 where

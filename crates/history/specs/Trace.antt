@@ -13,13 +13,14 @@ use Rattle.wire.specs.declared.codes.Sense.{Sense}
 use Rattle.reply.specs.declared.Reply.{Reply}
 use Rattle.reply.specs.declared.Reply.the-variants as reply
 use Rattle.task.specs.Index.{first}
-use Rattle.task.specs.Tasks.{acceptedAs, runs, awaits, restarts}
+use Rattle.task.specs.Tasks.{hasConfirm, acceptedAs, runs, awaits, restarts}
 use Rattle.task.specs.Selections.{picks, everyTask, numberedAs}
 use Rattle.task.specs.declared.Kind.{Kind}
+use Rattle.task.specs.declared.Sequel.{Sequel}
 use Rattle.task.specs.declared.Task.{Task}
 use Rattle.task.specs.declared.select.Selection.{Selection}
 use Rattle.rules.specs.Management.{endsOf}
-use Rattle.plan.specs.Plans.{askedOf, kindOf, replyOf}
+use Rattle.plan.specs.Plans.{askedOf, kindOf, sequelOf, replyOf}
 use Rattle.rules.specs.declared.manage.Order.{Order}
 use Rattle.rules.specs.declared.manage.Order.the-variants.{AbortTask, AbortTaskSet, ClearTaskSet, ClearAca, UnitReset, TargetReset}
 use Rattle.plan.specs.declared.Request.the-variants.{Command, Manage, Confirm}
@@ -103,7 +104,7 @@ pub data Fate : Type 0 where
 
 -- a finish leaves a command with CONFIRM waiting to be confirmed and ends any other: which it is, its command said
 abbrev pub finishFate : ℕ → Task → Fate
-finishFate transferred a = cond (a .confirm) (becomes (awaits transferred a)) (ended byStatus)
+finishFate transferred a = cond (hasConfirm (a .sequel)) (becomes (awaits transferred a)) (ended byStatus)
 
 unfoldable pub fateOf : Effect → Task → Fate
 fateOf Nothing a = stays
@@ -118,15 +119,15 @@ unfoldable pub placeIn : List ℕ → ℕ → ℕ
 placeIn ids id = first (length ids) (λ p. eqb (getD ids p 0) id)
 
 -- a command from the path at p is accepted where the answer says so, under the number that the answer names
-abbrev pub commandEffect : ℕ → ℕ → ℕ → Kind → Bool → Answer → Effect
-commandEffect p tag lun kind confirm answer.Ready = Nothing
-commandEffect p tag lun kind confirm (answer.Accepted n) = Accepts (acceptedAs n p tag lun kind confirm)
-commandEffect p tag lun kind confirm (answer.Reply r) = Nothing
-commandEffect p tag lun kind confirm (answer.Started offset n) = Nothing
-commandEffect p tag lun kind confirm (answer.Confirmed n) = Nothing
-commandEffect p tag lun kind confirm (answer.Restarted n) = Nothing
-commandEffect p tag lun kind confirm answer.Reset = Nothing
-commandEffect p tag lun kind confirm (answer.Refused n) = Nothing
+abbrev pub commandEffect : ℕ → ℕ → ℕ → Kind → Sequel → Answer → Effect
+commandEffect p tag lun kind sequel answer.Ready = Nothing
+commandEffect p tag lun kind sequel (answer.Accepted n) = Accepts (acceptedAs n p tag lun kind sequel)
+commandEffect p tag lun kind sequel (answer.Reply r) = Nothing
+commandEffect p tag lun kind sequel (answer.Started offset n) = Nothing
+commandEffect p tag lun kind sequel (answer.Confirmed n) = Nothing
+commandEffect p tag lun kind sequel (answer.Restarted n) = Nothing
+commandEffect p tag lun kind sequel answer.Reset = Nothing
+commandEffect p tag lun kind sequel (answer.Refused n) = Nothing
 
 -- an order ends what it selects where it is answered by RESPONSE 00h
 abbrev pub orderReplied : ℕ → Order → Option Reply → Effect
@@ -152,7 +153,7 @@ confirmEffect p tag offset complete (answer.Refused n) = Nothing
 
 abbrev pub messageEffect : List ℕ → Asked → Answer → Effect
 messageEffect ids (Unread n) a = Nothing
-messageEffect ids (By path tag (Command lun flags)) a = commandEffect (placeIn ids path) tag lun (kindOf (flags .queue)) (flags .confirm) a
+messageEffect ids (By path tag (Command lun flags)) a = commandEffect (placeIn ids path) tag lun (kindOf (flags .queue)) (sequelOf (flags .confirm)) a
 messageEffect ids (By path tag (Manage o)) a = orderEffect (placeIn ids path) o a
 messageEffect ids (By path tag (Confirm offset complete)) a = confirmEffect (placeIn ids path) tag offset complete a
 

@@ -9,6 +9,8 @@ use Rattle.wire.specs.Codes
 use Rattle.task.specs.declared.Kind.the-variants.{Simple}
 use Rattle.task.specs.declared.Phase.{Phase}
 use Rattle.task.specs.declared.Phase.the-variants.{Waiting, Running, Unconfirmed}
+use Rattle.task.specs.declared.Sequel.{Sequel}
+use Rattle.task.specs.declared.Sequel.the-variants.{End, Confirm}
 use Rattle.task.specs.declared.Task.{Task}
 use Rattle.table.specs.declared.Table.{Table}
 use Rattle.engine.specs.Calls.{setupOf}
@@ -62,17 +64,16 @@ unfoldable pub twoHosts : List Event
 twoHosts =
     command 1 0 testUnit ∷ command 2 0 testUnit ∷ command 1 1 write ∷ command 2 1 write ∷ abort 1 2 1 ∷ abort 1 3 1 ∷ Start 0 ∷ Finish 2 Codes.good Codes.noSense 0 buffer ∷ []
 
-abbrev pub written : ℕ → ℕ → Phase → Bool → ℕ → Task
-written arrival p phase confirm transferred = record {
+abbrev pub written : ℕ → ℕ → Phase → Sequel → ℕ → Task
+written arrival p phase sequel position = record {
   arrival = arrival;
-  transferred = transferred;
-  offset = 0;
+  position = position;
   tag = 1;
   path = p;
   unit = 0;
   kind = Simple;
   phase = phase;
-  confirm = confirm;
+  sequel = sequel;
 }
 
 abbrev pub entry : Task → ℕ → ℕ → Label → Entry
@@ -88,7 +89,7 @@ pub record Ledgered (evs : List Event) (entries : List Entry) : Type 0 where
 abbrev pub TwoHostsLedger : Type 0
 TwoHostsLedger =
     Ledgered twoHosts
-    (entry (written 1 0 Waiting false 0) 3 5 (byOrder (AbortTask 1)) ∷ entry (written 2 1 Running false 0) 4 8 byStatus ∷ [])
+    (entry (written 1 0 Waiting End 0) 3 5 (byOrder (AbortTask 1)) ∷ entry (written 2 1 Running End 0) 4 8 byStatus ∷ [])
 
 -- both write with CONFIRM under tag 0001h; host 1's is finished after 512 bytes; host 2 aborts its own, and once
 -- more, and would confirm; host 1 confirms
@@ -102,4 +103,4 @@ confirmedTwoHosts =
 abbrev pub ConfirmedLedger : Type 0
 ConfirmedLedger =
     Ledgered confirmedTwoHosts
-    (entry (written 1 0 Unconfirmed true 512) 3 10 byStatus ∷ entry (written 2 1 Waiting true 0) 4 7 (byOrder (AbortTask 1)) ∷ [])
+    (entry (written 1 0 Unconfirmed Confirm 512) 3 10 byStatus ∷ entry (written 2 1 Waiting Confirm 0) 4 7 (byOrder (AbortTask 1)) ∷ [])

@@ -16,10 +16,12 @@ use Rattle.wire.specs.declared.message.Flags.{Flags}
 use Rattle.wire.specs.declared.message.Message.{Message}
 use Rattle.wire.specs.declared.message.Message.the-variants as message
 use Rattle.reply.specs.declared.Reply.the-variants as reply
+use Rattle.task.specs.Tasks.{transferredOf}
 use Rattle.task.specs.Selections.{numberedAs}
 use Rattle.task.specs.declared.Kind.{Kind}
 use Rattle.task.specs.declared.Kind.the-variants as kind
 use Rattle.task.specs.declared.Phase.the-variants as phase
+use Rattle.task.specs.declared.Sequel.{Sequel}
 use Rattle.task.specs.declared.scan.Pick.{Pick}
 use Rattle.task.specs.declared.select.Selection.{Selection}
 use Rattle.rules.specs.Rules.{deciding, decision}
@@ -35,7 +37,7 @@ use Rattle.rules.specs.declared.command.Ruling.the-variants.{Refuse, Respond, R
 use Rattle.rules.specs.declared.command.Decision.{Decision}
 use Rattle.rules.specs.declared.manage.Order.{Order}
 use Rattle.rules.specs.declared.manage.Order.the-variants as order
-use Rattle.plan.specs.Plans.{askedOf, kindOf, planned, refusing, ruled, orderPlan, isAwaited, confirmPlan, planOf}
+use Rattle.plan.specs.Plans.{askedOf, kindOf, sequelOf, planned, refusing, ruled, orderPlan, isAwaited, confirmPlan, planOf}
 use Rattle.plan.specs.declared.Request.{Request}
 use Rattle.plan.specs.declared.Request.the-variants.{Command, Manage, Confirm}
 use Rattle.plan.specs.declared.Asked.{Asked}
@@ -111,8 +113,9 @@ module _ (next p tag lun : ℕ) (flags : Flags) {r : Ruling} where
   pub faults : {sender : SenderChange} → r ≡ Invalid sender → planned (answer.Reply (reply.Invalid tag)) (change.OfSender p sender) records.Nothing ≡ ruled next p tag lun flags r
   faults e = rw e
 
-  pub takes : {k : Kind} → r ≡ Accept → k ≡ kindOf (flags .queue) → planned (answer.Accepted next) (change.OfSender p ClearMark) (records.Accept p tag lun k (flags .confirm)) ≡ ruled next p tag lun flags r
-  takes e h = rw (e, h)
+  pub takes : {k : Kind} {s : Sequel} → r ≡ Accept → k ≡ kindOf (flags .queue) → s ≡ sequelOf (flags .confirm)
+      → planned (answer.Accepted next) (change.OfSender p ClearMark) (records.Accept p tag lun k s) ≡ ruled next p tag lun flags r
+  takes e h l = rw (e, h, l)
 
 pub ruleset ruled-cases = (refuses, responds, reports, faults, takes)
 
@@ -163,12 +166,12 @@ module _ (own : Pick) (p tag : ℕ) (m : List ℕ) (offset : ℕ) (complete : Bo
       unfolding confirmPlan
       completes j k = rw (k, ← e, h, ← a, i, j)
 
-      pub confirms-past : {pl : Plan} → complete ≡ false → own .task .transferred < offset → pl ≡ planned (answer.Reply (reply.Response tag Codes.invalidField)) change.Nothing records.Nothing
+      pub confirms-past : {pl : Plan} → complete ≡ false → transferredOf (own .task) < offset → pl ≡ planned (answer.Reply (reply.Response tag Codes.invalidField)) change.Nothing records.Nothing
           → pl ≡ confirmPlan own p tag m offset complete
       unfolding confirmPlan
       confirms-past j l k = rw (← e, h, ← a, i, j, lt-ltb _ _ l) k
 
-      pub restarts : complete ≡ false → offset ≤ own .task .transferred
+      pub restarts : complete ≡ false → offset ≤ transferredOf (own .task)
           → planned (answer.Restarted (own .task .arrival)) change.Nothing (records.Restart (own .at) offset) ≡ confirmPlan own p tag m offset complete
       unfolding confirmPlan
       restarts j l = rw (← e, h, ← a, i, j, le-ltb _ _ l)

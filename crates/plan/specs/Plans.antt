@@ -14,11 +14,13 @@ use Rattle.wire.specs.declared.message.Message.{Message}
 use Rattle.wire.specs.declared.message.Message.the-variants as message
 use Rattle.reply.specs.declared.Reply.{Reply}
 use Rattle.reply.specs.declared.Reply.the-variants as reply
-use Rattle.task.specs.Tasks.{isUnconfirmed}
+use Rattle.task.specs.Tasks.{isUnconfirmed, transferredOf}
 use Rattle.task.specs.Selections.{numberedAs}
 use Rattle.task.specs.declared.scan.Pick.{Pick}
 use Rattle.task.specs.declared.Kind.{Kind}
 use Rattle.task.specs.declared.Kind.the-variants as kind
+use Rattle.task.specs.declared.Sequel.{Sequel}
+use Rattle.task.specs.declared.Sequel.the-variants as sequel
 use Rattle.task.specs.declared.select.Place.the-variants.{On}
 use Rattle.table.specs.Tables.{markedIn, attentionGoneIn, clearedAttentionIn, resetAttentionIn, acaClearedIn}
 use Rattle.table.specs.declared.Path as path
@@ -82,6 +84,10 @@ kindOf q =
     cond (eqb (q .0) (Codes.queueAca .0)) kind.Aca
     (cond (eqb (q .0) (Codes.queueHead .0)) kind.Head (cond (eqb (q .0) (Codes.queueOrdered .0)) kind.Ordered kind.Simple))
 
+-- what follows the finish of a command: with CONFIRM it waits to be confirmed
+abbrev pub sequelOf : Bool → Sequel
+sequelOf confirm = cond confirm sequel.Confirm sequel.End
+
 -- ---- the reply that an answer is
 
 abbrev pub replyOf : Answer → Option Reply
@@ -109,7 +115,7 @@ ruled next p tag lun flags (Refuse n) = refusing n
 ruled next p tag lun flags (Respond code sender) = planned (answer.Reply (reply.Response tag code)) (change.OfSender p sender) records.Nothing
 ruled next p tag lun flags (Report status sense sender) = planned (answer.Reply (reply.Status tag status sense)) (change.OfSender p sender) records.Nothing
 ruled next p tag lun flags (Invalid sender) = planned (answer.Reply (reply.Invalid tag)) (change.OfSender p sender) records.Nothing
-ruled next p tag lun flags Accept = planned (answer.Accepted next) (change.OfSender p ClearMark) (records.Accept p tag lun (kindOf (flags .queue)) (flags .confirm))
+ruled next p tag lun flags Accept = planned (answer.Accepted next) (change.OfSender p ClearMark) (records.Accept p tag lun (kindOf (flags .queue)) (sequelOf (flags .confirm)))
 
 -- an order of the path at p changes the table only where it is answered 00h
 unfoldable pub orderPlan : Facts → ℕ → ℕ → ℕ → List ℕ → Order → Plan
@@ -130,7 +136,7 @@ confirmPlan own p tag m offset complete =
     cond (reservedSet m) (planned (answer.Reply (reply.Response tag Codes.invalidField)) change.Nothing records.Nothing)
     (cond (not (isAwaited own)) (refusing Codes.nothingToConfirm)
     (cond complete (planned (answer.Confirmed (own .task .arrival)) change.Nothing (records.End (numberedAs (own .task .arrival) p tag)))
-    (cond (ltb (own .task .transferred) offset) (planned (answer.Reply (reply.Response tag Codes.invalidField)) change.Nothing records.Nothing)
+    (cond (ltb (transferredOf (own .task)) offset) (planned (answer.Reply (reply.Response tag Codes.invalidField)) change.Nothing records.Nothing)
     (planned (answer.Restarted (own .task .arrival)) change.Nothing (records.Restart (own .at) offset)))))
 
 abbrev pub planOf : Lookup → ℕ → ℕ → ℕ → List ℕ → Request → Plan

@@ -1,6 +1,6 @@
 // The plan: what a message asks, the answer to it, and what that does to the table. No table travels here.
 ghost use mathlib.Core.Path.{_≡_};
-ghost use Rattle.plan.specs.Plans.{askedOf, tagAsked, unitAsked, clearsSet, kindOf, planned, refusing, ruled, orderPlan, isAwaited, confirmPlan, planOf, senderAfter, pathsAfter, unitsAfter};
+ghost use Rattle.plan.specs.Plans.{askedOf, tagAsked, unitAsked, clearsSet, kindOf, sequelOf, planned, refusing, ruled, orderPlan, isAwaited, confirmPlan, planOf, senderAfter, pathsAfter, unitsAfter};
 use reply::Reply;
 use rules::change::Change;
 use rules::change::SenderChange;
@@ -14,6 +14,7 @@ use table::UNITS;
 use table::Unit;
 use task::Kind;
 use task::Phase;
+use task::Sequel;
 use task::scan::Pick;
 use task::select::Place;
 use task::select::Selection;
@@ -50,7 +51,7 @@ pub enum RecordChange {
         tag: u16,
         lun: u8,
         kind: Kind,
-        confirm: bool,
+        sequel: Sequel,
     },
     // An order, or a confirmation, ends all tasks of a selection.
     End(Selection),
@@ -66,7 +67,7 @@ pub enum Answer {
     Ready,
     Accepted(u64),
     Reply(Reply),
-    Started { offset: u32, arrival: u64 },
+    Started { offset: u64, arrival: u64 },
     Confirmed(u64),
     Restarted(u64),
     Reset,
@@ -182,6 +183,16 @@ fn kind_of(q: Queue) -> Kind
     Kind::Simple
 }
 
+// What follows the finish of a command: CONFIRM set or clear.
+fn sequel_of(confirm: bool) -> Sequel
+    ensures { λ r. ⌜ r ≡ sequelOf confirm ⌝ }
+{
+    if confirm {
+        return Sequel::Confirm;
+    }
+    Sequel::End
+}
+
 // An answer that leaves the table as it is.
 fn tell(answer: Answer) -> Plan
     ensures { λ r. ⌜ r ≡ planned answer Change.Nothing RecordChange.Nothing ⌝ }
@@ -224,6 +235,7 @@ fn rule(next: u64, p: u8, tag: u16, lun: u8, flags: Flags, r: Ruling) -> Plan
         Ruling::Accept => {
             let queue = flags.queue;
             let kind = kind_of(queue);
+            let sequel = sequel_of(flags.confirm);
             Plan {
                 answer: Answer::Accepted(next),
                 change: Change::OfSender(p, SenderChange::ClearMark),
@@ -232,7 +244,7 @@ fn rule(next: u64, p: u8, tag: u16, lun: u8, flags: Flags, r: Ruling) -> Plan
                     tag,
                     lun,
                     kind,
-                    confirm: flags.confirm,
+                    sequel,
                 },
             }
         }
@@ -292,7 +304,7 @@ fn plan_confirm(own: Pick, p: u8, tag: u16, m: &[u8], offset: u32, complete: boo
             records: RecordChange::End(Selection::numbered_as(arrival, p, tag)),
         };
     }
-    if offset as u64 > task.transferred {
+    if offset as u64 > task.position {
         return tell(Answer::Reply(Reply::Response { tag, code }));
     }
     Plan {

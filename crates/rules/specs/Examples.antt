@@ -9,6 +9,7 @@ use Rattle.task.specs.declared.Kind.{Kind}
 use Rattle.task.specs.declared.Kind.the-variants.{Aca, Simple}
 use Rattle.task.specs.declared.Phase.{Phase}
 use Rattle.task.specs.declared.Phase.the-variants.{Waiting, Unconfirmed}
+use Rattle.task.specs.declared.Sequel.the-variants.{Confirm}
 use Rattle.rules.specs.Management.{endsOf}
 use Rattle.rules.specs.declared.manage.Order.{Order}
 use Rattle.rules.specs.declared.manage.Order.the-variants.{AbortTask, AbortTaskSet, ClearTaskSet, ClearAca, UnitReset, TargetReset}
@@ -16,14 +17,13 @@ use Rattle.rules.specs.declared.manage.Order.the-variants.{AbortTask, Ab
 abbrev pub task : ℕ → ℕ → ℕ → ℕ → Kind → Phase → Task
 task arrival tag path unit kind phase = record {
   arrival = arrival;
-  transferred = 0;
-  offset = 0;
+  position = 0;
   tag = tag;
   path = path;
   unit = unit;
   kind = kind;
   phase = phase;
-  confirm = true;
+  sequel = Confirm;
 }
 
 -- tag 0005h of the paths at 0 and 1 on unit 0, the second unconfirmed, and tag 0006h of the path at 1, the ACA task,

@@ -9,12 +9,14 @@ use mathlib.Core.Logic.{inl, inr}
 use native.Mathlib.Omega.{arith}
 use lib.Dec.{eqb, ltb, leb}
 use borrow.Author.Tests.{ltb-true, ltb-false, leb-true, eqb-true, eqb-false, not-true, lt-ltb, le-ltb, le-leb, eq-eqb, ne-eqb}
-use Rattle.task.specs.Tasks.{noTask, isAca, isWaiting, isRunning}
+use Rattle.task.specs.Tasks.{noTask, isAca, isWaiting, isRunning, hasConfirm}
 use Rattle.task.specs.Map.{isLive}
 use Rattle.task.specs.declared.Kind.{Kind}
 use Rattle.task.specs.declared.Kind.the-variants as kind
 use Rattle.task.specs.declared.Phase.{Phase}
 use Rattle.task.specs.declared.Phase.the-variants as phase
+use Rattle.task.specs.declared.Sequel.{Sequel}
+use Rattle.task.specs.declared.Sequel.the-variants as sequel
 use Rattle.task.specs.declared.Task.{Task}
 use Rattle.task.proofs.Ways.{either-way, never, both, either}
 use Rattle.task.proofs.Places.{lt-or-le, all-at, all-of, none-at, some-none, first-is}
@@ -51,6 +53,10 @@ phase-zero phase.Waiting h = refl
 phase-zero phase.Running h = absurd (never h refl)
 phase-zero phase.Unconfirmed h = absurd (never h refl)
 
+sequel-zero : (s : Sequel) → hasConfirm s ≡ false → s ≡ sequel.End
+sequel-zero sequel.End h = refl
+sequel-zero sequel.Confirm h = absurd (never refl h)
+
 attention-zero : (a : Attention) → isNothing a ≡ true → a ≡ attention.Nothing
 attention-zero attention.Nothing h = refl
 attention-zero attention.Reset h = absurd (never h refl)
@@ -74,26 +80,23 @@ task-zero a h =
     let l = both _ _ (k .1) in
     let m = both _ _ (l .1) in
     let n = both _ _ (m .1) in
-    let o = both _ _ (n .1) in
     let arrival : a .arrival ≡ 0 = eqb-true _ _ (f .0) in
-    let transferred : a .transferred ≡ 0 = eqb-true _ _ (g .0) in
-    let offset : a .offset ≡ 0 = eqb-true _ _ (j .0) in
-    let tag : a .tag ≡ 0 = eqb-true _ _ (k .0) in
-    let path : a .path ≡ 0 = eqb-true _ _ (l .0) in
-    let unit : a .unit ≡ 0 = eqb-true _ _ (m .0) in
-    let kind : a .kind ≡ kind.Aca = aca-zero _ (n .0) in
-    let phase : a .phase ≡ phase.Waiting = phase-zero _ (o .0) in
-    let confirm : a .confirm ≡ false = not-true _ (o .1) in
+    let position : a .position ≡ 0 = eqb-true _ _ (g .0) in
+    let tag : a .tag ≡ 0 = eqb-true _ _ (j .0) in
+    let path : a .path ≡ 0 = eqb-true _ _ (k .0) in
+    let unit : a .unit ≡ 0 = eqb-true _ _ (l .0) in
+    let kind : a .kind ≡ kind.Aca = aca-zero _ (m .0) in
+    let phase : a .phase ≡ phase.Waiting = phase-zero _ (n .0) in
+    let sequel : a .sequel ≡ sequel.End = sequel-zero _ (not-true _ (n .1)) in
     λ i. record {
       arrival = arrival i;
-      transferred = transferred i;
-      offset = offset i;
+      position = position i;
       tag = tag i;
       path = path i;
       unit = unit i;
       kind = kind i;
       phase = phase i;
-      confirm = confirm i;
+      sequel = sequel i;
     }
 
 -- ---- two tasks that can't both be live

@@ -12,11 +12,12 @@ use lib.ListN.{length, getD, set, replicate, length-append, length-set, length-r
 use lib.Seq.{getD-set-same, getD-set-other, getD-append-add}
 use borrow.Author.Tests.{lt-ltb, le-ltb, ltb-true, ltb-false, leb-true, eq-eqb, ne-eqb, eqb-false}
 use Rattle.task.specs.Index.{someBelow, mapAt}
-use Rattle.task.specs.Tasks.{noTask, isAca, isRunning, inPhase, awaits}
+use Rattle.task.specs.Tasks.{noTask, isAca, isRunning, hasConfirm, inPhase, awaits}
 use Rattle.task.specs.Map.{isLive, lowestFree, withBit}
 use Rattle.task.specs.Selections.{picks, named, acaOn, runningOn, runningAs}
 use Rattle.task.specs.declared.Kind.{Kind}
 use Rattle.task.specs.declared.Phase.{Phase}
+use Rattle.task.specs.declared.Sequel.{Sequel}
 use Rattle.task.specs.declared.Task.{Task}
 use Rattle.task.specs.declared.select.Place.the-variants.{Anywhere, On}
 use Rattle.wire.proofs.Table.{cond-ind, neither}
@@ -295,21 +296,21 @@ alter-keeps t k b g x n =
     (λ _ _ _. g) (λ l e. altered-at t k b (g .shaped) l e) (altered-other t k b)
 
 -- a task in another phase is the same task
-pub same-in : (phase : Phase) (transferred offset : ℕ) (a : Task) → SameTask a (inPhase phase transferred offset a)
-same-in phase transferred offset a = record { arrival = refl; tag = refl; path = refl; unit = refl; kind = refl }
+pub same-in : (phase : Phase) (position : ℕ) (a : Task) → SameTask a (inPhase phase position a)
+same-in phase position a = record { arrival = refl; tag = refl; path = refl; unit = refl; kind = refl }
 
 pub start-keeps : StartedKeeps
-start-keeps t i g n = alter-keeps t i _ g (same-in _ _ _ (taskAt t i)) (λ _. n)
+start-keeps t i g n = alter-keeps t i _ g (same-in _ _ (taskAt t i)) (λ _. n)
 
 pub restart-keeps : RestartedKeeps
-restart-keeps t i offset g = alter-keeps t i _ g (same-in _ _ _ (taskAt t i)) (λ r. absurd (never r refl))
+restart-keeps t i offset g = alter-keeps t i _ g (same-in _ _ (taskAt t i)) (λ r. absurd (never r refl))
 
-new-fits : (t : Table) (path tag unit : ℕ) (kind : Kind) (confirm : Bool) (k : ℕ) → Sound t → MayCome t path tag unit kind
-    → Fits t (t .next + 1) k (newTask t path tag unit kind confirm)
-new-fits t path tag unit kind confirm k s m =
+new-fits : (t : Table) (path tag unit : ℕ) (kind : Kind) (sequel : Sequel) (k : ℕ) → Sound t → MayCome t path tag unit kind
+    → Fits t (t .next + 1) k (newTask t path tag unit kind sequel)
+new-fits t path tag unit kind sequel k s m =
     record { order = record { listed = m .listed; attached = m .attached; below = omega arith; owned = m .owner }; apart = apart }
   where
-    apart : (j : ℕ) (b : Task) → j < 64 → at t j ≡ some b → Clash (newTask t path tag unit kind confirm) b → k ≡ j
+    apart : (j : ℕ) (b : Task) → j < 64 → at t j ≡ some b → Clash (newTask t path tag unit kind sequel) b → k ≡ j
     apart j b l e (same-name p q) =
         absurd (none-any t (named path tag) (m .free) l e (picks-named b path tag ∙ rw (eq-eqb _ _ (sym p)) (eq-eqb _ _ (sym q))))
     apart j b l e (same-arrival p) = absurd (let h = s .below-next j b l e in omega arith)
@@ -318,16 +319,16 @@ new-fits t path tag unit kind confirm k s m =
 
 pub accept-keeps : AcceptKeeps
 unfolding accepted hasRoom
-accept-keeps t path tag unit kind confirm g m =
+accept-keeps t path tag unit kind sequel g m =
     cond-ind Good (hasRoom t)
     (λ y.
     let b = both (ltb (lowestFree (t .live)) 64) _ y in
     let l = ltb-true (lowestFree (t .live)) 64 (b .0) in
     let n = leb-true (t .next) lastArrival (b .1) in
     let k = lowestFree (t .live) in
-    let a = newTask t path tag unit kind confirm in
+    let a = newTask t path tag unit kind sequel in
     put-good t (withBit (t .live) k) (t .next + 1) k a (with-lt (t .live) k (g .shaped .map)) (omega arith) (omega arith)
-    (at-put t k a (g .shaped) l) (at-put-other t k a) (new-fits t path tag unit kind confirm k (g .sound) m) g)
+    (at-put t k a (g .shaped) l) (at-put-other t k a) (new-fits t path tag unit kind sequel k (g .sound) m) g)
     (λ _. g)
 
 -- what may come to t may come to t with other paths
@@ -347,8 +348,8 @@ finish-keeps t i failed transferred g =
     let claimed : Good (claimedBy t a failed) =
     cond-ind (λ (us : List unit.Unit). Good (withUnits t us)) failed
     (λ _. claim-keeps t (a .unit) (a .path) g (g .sound .attached i a l e) (g .sound .listed i a l e)) (λ _. g) in
-    cond-ind Good (a .confirm)
-    (λ _. alter-keeps (claimedBy t a failed) i (awaits transferred a) claimed (same-in _ _ _ a) (λ r. absurd (never r refl)))
+    cond-ind Good (hasConfirm (a .sequel))
+    (λ _. alter-keeps (claimedBy t a failed) i (awaits transferred a) claimed (same-in _ _ a) (λ r. absurd (never r refl)))
     (λ _. end-keeps (claimedBy t a failed) (runningAs (a .arrival)) claimed))
     (λ _. g)
 

@@ -8,6 +8,7 @@ use lib.ListN.{length, getD}
 use Rattle.task.specs.Tasks.{isAca, isRunning}
 use Rattle.task.specs.Selections.{named, acaOn, runningOn}
 use Rattle.task.specs.declared.Kind.{Kind}
+use Rattle.task.specs.declared.Sequel.{Sequel}
 use Rattle.task.specs.declared.Task.{Task}
 use Rattle.task.specs.declared.select.Selection.{Selection}
 use Rattle.task.specs.declared.select.Place.{Place}
@@ -45,7 +46,7 @@ pub record MayCome (t : Table) (path tag unit : ℕ) (kind : Kind) : Type 0 wher
   pub alone : isAca kind ≡ true → anyLive t (acaOn unit) ≡ false
 
 abbrev pub AcceptKeeps : Type 0
-AcceptKeeps = (t : Table) (path tag unit : ℕ) (kind : Kind) (confirm : Bool) → Good t → MayCome t path tag unit kind → Good (accepted t path tag unit kind confirm)
+AcceptKeeps = (t : Table) (path tag unit : ℕ) (kind : Kind) (sequel : Sequel) → Good t → MayCome t path tag unit kind → Good (accepted t path tag unit kind sequel)
 
 abbrev pub EndKeeps : Type 0
 EndKeeps = (t : Table) (s : Selection) → Good t → Good (endedBy t s)

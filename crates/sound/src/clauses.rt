@@ -28,10 +28,7 @@ pub fn is_no_task(a: Task) -> bool
     if a.arrival != 0 {
         return false;
     }
-    if a.transferred != 0 {
-        return false;
-    }
-    if a.offset != 0 {
+    if a.position != 0 {
         return false;
     }
     if a.tag != 0 {
@@ -51,7 +48,8 @@ pub fn is_no_task(a: Task) -> bool
     if !task::is_waiting(phase) {
         return false;
     }
-    !a.confirm
+    let sequel = a.sequel;
+    !task::has_confirm(sequel)
 }
 
 // An ACA task only on a unit with ACA, only from its owner.

@@ -15,10 +15,11 @@ use lib.ListN.{length, getD, set, replicate}
 use lib.Seq.{set-getD}
 use borrow.Author.Tests.{lt-ltb, le-ltb, le-leb, lt-leb, not-true, not-false}
 use Rattle.task.specs.Index.{first, mapOf, mapAt}
-use Rattle.task.specs.Tasks.{noTask, isRunning, awaits}
+use Rattle.task.specs.Tasks.{noTask, isRunning, hasConfirm, awaits}
 use Rattle.task.specs.Map.{isLive, lowestFree, withBit, withoutBit}
 use Rattle.task.specs.Selections.{picks, picksLive, fromOn, runningAs}
 use Rattle.task.specs.declared.Kind.{Kind}
+use Rattle.task.specs.declared.Sequel.{Sequel}
 use Rattle.task.specs.declared.Task.{Task}
 use Rattle.task.specs.declared.select.Selection.{Selection}
 use Rattle.task.specs.declared.select.Place.{Place}
@@ -128,18 +129,18 @@ module _ (t : Table) {i : ℕ} (e : i ≡ lowestFree (t .live)) where
   unfolding hasRoom
   some-record h = rw (← e, lt-ltb i 64 h)
 
-  module _ (path tag unit : ℕ) (kind : Kind) (confirm : Bool) where
-    pub accept-full : 64 ≤ i → t ≡ accepted t path tag unit kind confirm
+  module _ (path tag unit : ℕ) (kind : Kind) (sequel : Sequel) where
+    pub accept-full : 64 ≤ i → t ≡ accepted t path tag unit kind sequel
     unfolding accepted
     accept-full h = rw (← no-record h)
 
-    pub accept-late : i < 64 → lastArrival < t .next → t ≡ accepted t path tag unit kind confirm
+    pub accept-late : i < 64 → lastArrival < t .next → t ≡ accepted t path tag unit kind sequel
     unfolding accepted
     accept-late h l = rw (← some-record h, lt-leb _ _ l)
 
     pub accept-put : {m : ℕ} → i < 64 → t .next ≤ lastArrival → m ≡ withBit (t .live) i
-        → record { live = m; next = t .next + 1; count = t .count; attached = t .attached; paths = t .paths; units = t .units; tasks = set (t .tasks) i (newTask t path tag unit kind confirm) }
-        ≡ accepted t path tag unit kind confirm
+        → record { live = m; next = t .next + 1; count = t .count; attached = t .attached; paths = t .paths; units = t .units; tasks = set (t .tasks) i (newTask t path tag unit kind sequel) }
+        ≡ accepted t path tag unit kind sequel
     unfolding accepted
     accept-put h l k = rw (← some-record h, le-leb _ _ l, ← e, k)
 
@@ -236,17 +237,17 @@ module _ (t : Table) {i : ℕ} (failed : Bool) (transferred : ℕ) where
     unfolding finished
     finish-idle k = rw (lt-ltb i 64 h, ← e, not-true b k)
 
-    module _ (k : not b ≡ false) {u : Table} (d : u ≡ claimedBy t (taskAt t i) failed) where
-      pub finish-stays : taskAt t i .confirm ≡ true → withTasks u (u .live) (set (u .tasks) i (awaits transferred (taskAt t i))) ≡ finished t i failed transferred
+    module _ (k : not b ≡ false) {u : Table} (d : u ≡ claimedBy t (taskAt t i) failed) {q : Bool} (f : q ≡ hasConfirm (taskAt t i .sequel)) where
+      pub finish-stays : q ≡ true → withTasks u (u .live) (set (u .tasks) i (awaits transferred (taskAt t i))) ≡ finished t i failed transferred
       unfolding finished
       finish-stays c =
           let live : true ≡ isLive (t .live) i = sym (both (isLive (t .live) i) _ (sym e ∙ not-false b k) .0) in
           rw (lt-ltb i 64 h, ← e, not-false b k, d)
-          (chosen _ (sym c) (alter-live (claimedBy t (taskAt t i) failed) (awaits transferred (taskAt t i)) h live refl))
+          (chosen _ (sym c ∙ f) (alter-live (claimedBy t (taskAt t i) failed) (awaits transferred (taskAt t i)) h live refl))
 
-      pub finish-ends : {v : Table} {s : Selection} → taskAt t i .confirm ≡ false → v ≡ endedBy u s → s ≡ runningAs (taskAt t i .arrival) → v ≡ finished t i failed transferred
+      pub finish-ends : {v : Table} {s : Selection} → q ≡ false → v ≡ endedBy u s → s ≡ runningAs (taskAt t i .arrival) → v ≡ finished t i failed transferred
       unfolding finished
-      finish-ends c f n = f ∙ rw (lt-ltb i 64 h, ← e, not-false b k, c, d, n)
+      finish-ends c g n = g ∙ rw (lt-ltb i 64 h, ← e, not-false b k, ← f, c, d, n)
 
 pub ruleset finish-ways = (claims, claims-nothing, finish-past, finish-idle, finish-stays, finish-ends)
 

@@ -11,11 +11,12 @@ use lib.ListN.{length, getD, set, length-map, length-set, List·getD-map}
 use lib.Seq.{getD-set-same, getD-set-other, map-set-same}
 use borrow.Author.Tests.{lt-ltb}
 use Rattle.task.specs.Index.{mapAt}
-use Rattle.task.specs.Tasks.{noTask, isRunning, awaits}
+use Rattle.task.specs.Tasks.{noTask, isRunning, hasConfirm, awaits}
 use Rattle.task.specs.Map.{isLive, lowestFree}
 use Rattle.task.specs.Selections.{picks, picksLive, runningAs}
 use Rattle.task.specs.Next.{Stands}
 use Rattle.task.specs.declared.Kind.{Kind}
+use Rattle.task.specs.declared.Sequel.{Sequel}
 use Rattle.task.specs.declared.Task.{Task}
 use Rattle.task.specs.declared.select.Selection.{Selection}
 use Rattle.wire.proofs.Table.{cond-ind}
@@ -70,8 +71,8 @@ module _ (t : Table) (k : ℕ) (a : Task) where
   at-put-other i n = rw (with-other (t .live) k i n, getD-set-other (t .tasks) k i a noTask n)
 
 -- accept puts its task into a free place where there is room
-module _ (t : Table) (path tag unit : ℕ) (kind : Kind) (confirm : Bool) where
-  pub accepted-put : hasRoom t ≡ true → accepted t path tag unit kind confirm ≡ putAt t (lowestFree (t .live)) (newTask t path tag unit kind confirm)
+module _ (t : Table) (path tag unit : ℕ) (kind : Kind) (sequel : Sequel) where
+  pub accepted-put : hasRoom t ≡ true → accepted t path tag unit kind sequel ≡ putAt t (lowestFree (t .live)) (newTask t path tag unit kind sequel)
   unfolding accepted
   accepted-put e = rw e
 
@@ -207,9 +208,9 @@ module _ (t : Table) where
   tasks-if true live next l = record { rest = refl }
   tasks-if false live next l = record { rest = refl }
 
-  pub accepted-only : (path tag unit : ℕ) (kind : Kind) (confirm : Bool) → OnlyTasks t (accepted t path tag unit kind confirm)
+  pub accepted-only : (path tag unit : ℕ) (kind : Kind) (sequel : Sequel) → OnlyTasks t (accepted t path tag unit kind sequel)
   unfolding accepted
-  accepted-only path tag unit kind confirm = tasks-if (hasRoom t) _ _ _
+  accepted-only path tag unit kind sequel = tasks-if (hasRoom t) _ _ _
 
   pub ended-only : (s : Selection) → OnlyTasks t (endedBy t s)
   unfolding endedBy
@@ -264,19 +265,19 @@ abbrev pub endedAs : Table → Task → Bool → Table
 endedAs t a failed = withUnits (endedBy t (runningAs (a .arrival))) (claimedBy t a failed .units)
 
 module _ (t : Table) (i : ℕ) {a : Task} (failed : Bool) (transferred : ℕ) (l : i < 64) (e : at t i ≡ some a) (r : isRunning (a .phase) ≡ true) where
-  pub finished-ways : (P : Table → Type 0) → (a .confirm ≡ true → P (awaitedAt t i a failed transferred))
-      → (a .confirm ≡ false → P (endedAs t a failed)) → P (finished t i failed transferred)
+  pub finished-ways : (P : Table → Type 0) → (hasConfirm (a .sequel) ≡ true → P (awaitedAt t i a failed transferred))
+      → (hasConfirm (a .sequel) ≡ false → P (endedAs t a failed)) → P (finished t i failed transferred)
   unfolding finished
   finished-ways P f g =
       let v = live-at t i e in
       rw (lt-ltb i 64 l, v .0, v .1, r)
-      (cond-ind P (a .confirm) (λ c. rw (altered-units t i (awaits transferred a) (claimedBy t a failed .units)) (f c))
+      (cond-ind P (hasConfirm (a .sequel)) (λ c. rw (altered-units t i (awaits transferred a) (claimedBy t a failed .units)) (f c))
       (λ c. rw (ended-units t (runningAs (a .arrival)) (claimedBy t a failed .units)) (g c)))
 
-  pub finished-awaits : a .confirm ≡ true → finished t i failed transferred ≡ awaitedAt t i a failed transferred
+  pub finished-awaits : hasConfirm (a .sequel) ≡ true → finished t i failed transferred ≡ awaitedAt t i a failed transferred
   finished-awaits c = finished-ways (λ (u : Table). u ≡ awaitedAt t i a failed transferred) (λ _. refl) (λ d. absurd (never c d))
 
-  pub finished-ends : a .confirm ≡ false → finished t i failed transferred ≡ endedAs t a failed
+  pub finished-ends : hasConfirm (a .sequel) ≡ false → finished t i failed transferred ≡ endedAs t a failed
   finished-ends c = finished-ways (λ (u : Table). u ≡ endedAs t a failed) (λ d. absurd (never d c)) (λ _. refl)
 
 -- ---- some live task is picked, by places

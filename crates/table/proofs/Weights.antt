@@ -46,10 +46,10 @@ weight-same f t paths units = weight-ext f f (withPaths (withUnits t units) path
 
 pub accept-weighs : AcceptWeighs
 unfolding hasRoom
-accept-weighs f t path tag unit kind confirm h e =
+accept-weighs f t path tag unit kind sequel h e =
     let l : lowestFree (t .live) < 64 = ltb-true _ _ (both _ _ e .0) in
-    ap (weight f) (accepted-put t path tag unit kind confirm e)
-    ∙ weight-put f t (lowestFree (t .live)) (newTask t path tag unit kind confirm) h l (at-free t l)
+    ap (weight f) (accepted-put t path tag unit kind sequel e)
+    ∙ weight-put f t (lowestFree (t .live)) (newTask t path tag unit kind sequel) h l (at-free t l)
 
 pub end-weighs : EndWeighs
 end-weighs f t s h = weight-ext f (λ a. cond (picks s a) 0 (f a)) (endedBy t s) t (λ i l. ap (weightAt f) (at-ended t s i h l) ∙ left (at t i))

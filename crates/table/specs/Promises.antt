@@ -8,6 +8,7 @@ use lib.Count.{ones}
 use Rattle.task.specs.Tasks.{runs}
 use Rattle.task.specs.Selections.{picks}
 use Rattle.task.specs.declared.Kind.{Kind}
+use Rattle.task.specs.declared.Sequel.{Sequel}
 use Rattle.task.specs.declared.Task.{Task}
 use Rattle.task.specs.declared.select.Selection.{Selection}
 use Rattle.table.specs.Tables.{anyLive, pickOf, hasRoom, newTask, accepted, endedBy, alteredAt, started, resetOf}
@@ -24,8 +25,8 @@ AnyIsFound = (t : Table) (s : Selection) → Shaped t → pickOf t s .found ≡ 
 
 -- where there is room, a new task adds its own weight
 abbrev pub AcceptWeighs : Type 0
-AcceptWeighs = (f : Task → ℕ) (t : Table) (path tag unit : ℕ) (kind : Kind) (confirm : Bool) → Shaped t → hasRoom t ≡ true
-    → weight f (accepted t path tag unit kind confirm) ≡ weight f t + f (newTask t path tag unit kind confirm)
+AcceptWeighs = (f : Task → ℕ) (t : Table) (path tag unit : ℕ) (kind : Kind) (sequel : Sequel) → Shaped t → hasRoom t ≡ true
+    → weight f (accepted t path tag unit kind sequel) ≡ weight f t + f (newTask t path tag unit kind sequel)
 
 -- ending takes out what is picked, and nothing else
 abbrev pub EndWeighs : Type 0

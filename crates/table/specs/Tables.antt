@@ -5,11 +5,12 @@ use mathlib.Core.List.{List}
 use lib.ListN.{getD, set, replicate}
 use lib.Dec.{eqb, ltb, leb}
 use Rattle.task.specs.Index.{first, someBelow, mapOf, mapAt}
-use Rattle.task.specs.Tasks.{noTask, acceptedAs, isRunning, runs, awaits, restarts}
+use Rattle.task.specs.Tasks.{noTask, acceptedAs, isRunning, hasConfirm, runs, awaits, restarts}
 use Rattle.task.specs.Map.{isLive, lowestFree, withBit}
 use Rattle.task.specs.Selections.{picks, picksLive, fromOn, runningAs}
 use Rattle.task.specs.Scan.{scan}
 use Rattle.task.specs.declared.Kind.{Kind}
+use Rattle.task.specs.declared.Sequel.{Sequel}
 use Rattle.task.specs.declared.Task.{Task}
 use Rattle.task.specs.declared.select.Selection.{Selection}
 use Rattle.task.specs.declared.select.Place.{Place}
@@ -135,12 +136,12 @@ putAt t i a = record {
 }
 
 -- a new task, waiting, under the next arrival number
-abbrev pub newTask : Table → ℕ → ℕ → ℕ → Kind → Bool → Task
-newTask t path tag unit kind confirm = acceptedAs (t .next) path tag unit kind confirm
+abbrev pub newTask : Table → ℕ → ℕ → ℕ → Kind → Sequel → Task
+newTask t path tag unit kind sequel = acceptedAs (t .next) path tag unit kind sequel
 
 -- a new task takes the lowest-numbered free record; with no room nothing changes
-unfoldable pub accepted : Table → ℕ → ℕ → ℕ → Kind → Bool → Table
-accepted t path tag unit kind confirm = cond (hasRoom t) (putAt t (lowestFree (t .live)) (newTask t path tag unit kind confirm)) t
+unfoldable pub accepted : Table → ℕ → ℕ → ℕ → Kind → Sequel → Table
+accepted t path tag unit kind sequel = cond (hasRoom t) (putAt t (lowestFree (t .live)) (newTask t path tag unit kind sequel)) t
 
 -- every live task that is picked ends: its record is wiped to zero, and its place is live no more
 unfoldable pub endedBy : Table → Selection → Table
@@ -220,7 +221,7 @@ claimedBy t a failed = withUnits t (cond failed (claimedIn (t .units) (a .unit) 
 
 -- a task with CONFIRM stays live and waits to be confirmed, with the bytes transferred; any other ends
 abbrev pub leftBy : Table → ℕ → Task → ℕ → Table
-leftBy t i a transferred = cond (a .confirm) (alteredAt t i (awaits transferred a)) (endedBy t (runningAs (a .arrival)))
+leftBy t i a transferred = cond (hasConfirm (a .sequel)) (alteredAt t i (awaits transferred a)) (endedBy t (runningAs (a .arrival)))
 
 -- the task in record i is live and runs
 abbrev pub runsAt : Table → ℕ → Bool

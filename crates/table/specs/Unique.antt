@@ -5,6 +5,7 @@ use mathlib.Core.Bool.{Bool}
 use mathlib.Core.List.{List}
 use Rattle.wire.specs.Unique.{One}
 use Rattle.task.specs.declared.Kind.{Kind}
+use Rattle.task.specs.declared.Sequel.{Sequel}
 use Rattle.task.specs.declared.select.Selection.{Selection}
 use Rattle.task.specs.declared.select.Place.{Place}
 use Rattle.table.specs.Tables.{zeroTable, pathAt, unitAt, taskAt, bitOf, isAttached, isNothing, isReset, isCleared, hasAca, ownedBy, acaAt, placeOf, pathOf, pickOf, hasRoom}
@@ -35,7 +36,7 @@ pub record AnswersAreOne : Type 0 where
   pub pick : (t : Table) (s : Selection) → One (pickOf t s)
   pub task-at : (t : Table) (i : ℕ) → One (taskAt t i)
   pub has-room : (t : Table) → One (hasRoom t)
-  pub accept : (t : Table) (path tag unit : ℕ) (kind : Kind) (confirm : Bool) → One (accepted t path tag unit kind confirm)
+  pub accept : (t : Table) (path tag unit : ℕ) (kind : Kind) (sequel : Sequel) → One (accepted t path tag unit kind sequel)
   pub end : (t : Table) (s : Selection) → One (endedBy t s)
   pub start : (t : Table) (i : ℕ) → One (started t i)
   pub restart : (t : Table) (i offset : ℕ) → One (restarted t i offset)

@@ -13,6 +13,7 @@ use crate::UNITS;
 use task::Kind;
 use task::Phase;
 use task::RECORDS;
+use task::Sequel;
 use task::Task;
 use task::scan::Pick;
 use task::select::Selection;
@@ -46,8 +47,8 @@ impl Table {
     }
 
     // A new waiting task in the lowest free record, under the next arrival number; with no room nothing changes.
-    pub fn accept(mut self, path: u8, tag: u16, unit: u8, kind: Kind, confirm: bool) -> Table
-        ensures { λ r. ⌜ r ≡ accepted self path tag unit kind confirm ⌝ }
+    pub fn accept(mut self, path: u8, tag: u16, unit: u8, kind: Kind, sequel: Sequel) -> Table
+        ensures { λ r. ⌜ r ≡ accepted self path tag unit kind sequel ⌝ }
     {
         let i = task::map::lowest_free(self.live);
         let next = self.next;
@@ -59,14 +60,13 @@ impl Table {
         }
         let a = Task {
             arrival: next,
-            transferred: 0,
-            offset: 0,
+            position: 0,
             tag,
             path,
             unit,
             kind,
             phase: Phase::Waiting,
-            confirm,
+            sequel,
         };
         self.tasks[i] = a;
         self.live = task::map::with_bit(self.live, i);
@@ -123,7 +123,7 @@ impl Table {
         let a = self.tasks[i];
         let b = Task {
             phase: Phase::Waiting,
-            offset,
+            position: offset as u64,
             ..a
         };
         self.tasks[i] = b;
@@ -143,16 +143,16 @@ impl Table {
         if !runs_in(self.live, i, a) {
             return self;
         }
-        let confirm = a.confirm;
+        let sequel = a.sequel;
         if failed {
             let units = self.units;
             let claimed = crate::units::claim(units, a.unit, a.path);
             self.units = claimed;
         }
-        if confirm {
+        if task::has_confirm(sequel) {
             let b = Task {
                 phase: Phase::Unconfirmed,
-                transferred,
+                position: transferred,
                 ..a
             };
             self.tasks[i] = b;

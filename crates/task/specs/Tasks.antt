@@ -1,5 +1,5 @@
--- A task's record: the numbers of kinds and phases, the wiped record, a task as its command is accepted, and how it
--- changes while it is live.
+-- A task's record: the numbers of kinds and phases, what its position means, the wiped record, a task as its command
+-- is accepted, and how it changes while it is live.
 use Prim.Native.Nat.{ℕ}
 use mathlib.Core.Bool.{Bool, true, false}
 use Rattle.wire.specs.Codes
@@ -7,6 +7,8 @@ use Rattle.task.specs.declared.Kind.{Kind}
 use Rattle.task.specs.declared.Kind.the-variants as kind
 use Rattle.task.specs.declared.Phase.{Phase}
 use Rattle.task.specs.declared.Phase.the-variants as phase
+use Rattle.task.specs.declared.Sequel.{Sequel}
+use Rattle.task.specs.declared.Sequel.the-variants as sequel
 use Rattle.task.specs.declared.Task.{Task}
 
 -- QUEUE CNTL (003, table 6)
@@ -48,57 +50,71 @@ isUnconfirmed phase.Waiting = false
 isUnconfirmed phase.Running = false
 isUnconfirmed phase.Unconfirmed = true
 
+-- what follows a finish: the task ends, or with CONFIRM it waits to be confirmed
+abbrev pub hasConfirm : Sequel → Bool
+hasConfirm sequel.End = false
+hasConfirm sequel.Confirm = true
+
+-- ---- the position: a place in the command's data, counted from its beginning
+
+-- while the task waits or runs it is the offset that it starts at: that of its last restart, or 0
+abbrev pub offsetOf : Task → ℕ
+offsetOf a = a .position
+
+-- while it waits to be confirmed it is how many bytes the finish said were transferred
+abbrev pub transferredOf : Task → ℕ
+transferredOf a = a .position
+
+-- ---- a record as it begins
+
 -- a record wiped to zero
 abbrev pub noTask : Task
 noTask = record {
   arrival = 0;
-  transferred = 0;
-  offset = 0;
+  position = 0;
   tag = 0;
   path = 0;
   unit = 0;
   kind = kind.Aca;
   phase = phase.Waiting;
-  confirm = false;
+  sequel = sequel.End;
 }
 
 -- a task as it is when its command is accepted
-abbrev pub acceptedAs : ℕ → ℕ → ℕ → ℕ → Kind → Bool → Task
-acceptedAs arrival path tag unit kind confirm = record {
+abbrev pub acceptedAs : ℕ → ℕ → ℕ → ℕ → Kind → Sequel → Task
+acceptedAs arrival path tag unit kind sequel = record {
   arrival = arrival;
-  transferred = 0;
-  offset = 0;
+  position = 0;
   tag = tag;
   path = path;
   unit = unit;
   kind = kind;
   phase = phase.Waiting;
-  confirm = confirm;
+  sequel = sequel;
 }
 
 -- ---- a record that changes while its task is live; the fields not named stay
 
-abbrev pub inPhase : Phase → ℕ → ℕ → Task → Task
-inPhase phase transferred offset a = record {
+abbrev pub inPhase : Phase → ℕ → Task → Task
+inPhase phase position a = record {
   arrival = a .arrival;
-  transferred = transferred;
-  offset = offset;
+  position = position;
   tag = a .tag;
   path = a .path;
   unit = a .unit;
   kind = a .kind;
   phase = phase;
-  confirm = a .confirm;
+  sequel = a .sequel;
 }
 
--- it runs
+-- it runs, from the offset that it waited with
 abbrev pub runs : Task → Task
-runs a = inPhase phase.Running (a .transferred) (a .offset) a
+runs a = inPhase phase.Running (offsetOf a) a
 
 -- the device has finished after so many bytes, and it waits to be confirmed
 abbrev pub awaits : ℕ → Task → Task
-awaits transferred a = inPhase phase.Unconfirmed transferred (a .offset) a
+awaits transferred a = inPhase phase.Unconfirmed transferred a
 
 -- it waits again, to start at an offset
 abbrev pub restarts : ℕ → Task → Task
-restarts offset a = inPhase phase.Waiting (a .transferred) offset a
+restarts offset a = inPhase phase.Waiting offset a

@@ -2,13 +2,14 @@
 -- proofs/Unique.antt.
 use Prim.Native.Nat.{ℕ}
 use mathlib.Core.List.{List}
-use Rattle.task.specs.Tasks.{noTask, isAca, isWaiting, isRunning}
+use Rattle.task.specs.Tasks.{noTask, isAca, isWaiting, isRunning, hasConfirm}
 use Rattle.task.specs.Map.{isLive, lowestFree, liveCount, withBit, withoutBit}
 use Rattle.task.specs.Selections.{picksLive, named, numberedAs, onUnit, fromOn, acaOn, acaFromOn, runningOn, waitingOn, acaWaitingOn, runningAs}
 use Rattle.task.specs.Scan.{scan}
 use Rattle.wire.specs.Unique.{One}
 use Rattle.task.specs.declared.Kind.{Kind}
 use Rattle.task.specs.declared.Phase.{Phase}
+use Rattle.task.specs.declared.Sequel.{Sequel}
 use Rattle.task.specs.declared.Task.{Task}
 use Rattle.task.specs.declared.select.Selection.{Selection}
 
@@ -17,6 +18,7 @@ pub record AnswersAreOne : Type 0 where
   pub is-aca : (k : Kind) → One (isAca k)
   pub is-waiting : (p : Phase) → One (isWaiting p)
   pub is-running : (p : Phase) → One (isRunning p)
+  pub has-confirm : (s : Sequel) → One (hasConfirm s)
   pub lowest-free : (live : ℕ) → One (lowestFree live)
   pub live-count : (live : ℕ) → One (liveCount live)
   pub is-live : (live i : ℕ) → One (isLive live i)

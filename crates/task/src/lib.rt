@@ -1,7 +1,7 @@
 // A task's record, the map of live records, which tasks a selection picks, and the scan of lent records. It knows no
 // message and no table.
 ghost use mathlib.Core.Path.{_≡_};
-ghost use Rattle.task.specs.Tasks.{noTask, kindNumber, phaseNumber, isAca, isWaiting, isRunning};
+ghost use Rattle.task.specs.Tasks.{noTask, kindNumber, phaseNumber, isAca, isWaiting, isRunning, hasConfirm};
 
 pub mod map;
 pub mod scan;
@@ -10,7 +10,7 @@ pub mod select;
 // The records that a table has, and the bits of the map of live ones.
 pub const RECORDS: usize = 64;
 
-// How a task is queued. The first is the zero of a wiped record, here and in Phase.
+// How a task is queued. The first is the zero of a wiped record, here, in Phase and in Sequel.
 pub enum Kind {
     Aca,
     Head,
@@ -25,19 +25,26 @@ pub enum Phase {
     Unconfirmed,
 }
 
-// A task's record, 32 bytes: fields lie in the order written, the widest first. The path is its place in the path
-// list. Of a command with CONFIRM it keeps the bytes that the last finish said were transferred, and the offset that
-// it was last restarted at.
+// What follows a finish: the task ends, or with CONFIRM it waits to be confirmed. It is one thing or another, never
+// two.
+pub enum Sequel {
+    End,
+    Confirm,
+}
+
+// A task's record, 24 bytes: fields lie in the order written, the widest first. The path is its place in the path
+// list. The position is a place in the command's data, counted from its beginning: while the task waits or runs, the
+// offset that it starts at (that of its last restart, or 0); while it waits to be confirmed, the bytes that the finish
+// said were transferred.
 pub struct Task {
     pub arrival: u64,
-    pub transferred: u64,
-    pub offset: u32,
+    pub position: u64,
     pub tag: u16,
     pub path: u8,
     pub unit: u8,
     pub kind: Kind,
     pub phase: Phase,
-    pub confirm: bool,
+    pub sequel: Sequel,
 }
 
 // The record wiped to zero.
@@ -46,14 +53,13 @@ pub fn no_task() -> Task
 {
     Task {
         arrival: 0,
-        transferred: 0,
-        offset: 0,
+        position: 0,
         tag: 0,
         path: 0,
         unit: 0,
         kind: Kind::Aca,
         phase: Phase::Waiting,
-        confirm: false,
+        sequel: Sequel::End,
     }
 }
 
@@ -107,5 +113,14 @@ pub fn is_running(p: Phase) -> bool
         Phase::Waiting => false,
         Phase::Running => true,
         Phase::Unconfirmed => false,
+    }
+}
+
+pub fn has_confirm(s: Sequel) -> bool
+    ensures { λ r. ⌜ r ≡ hasConfirm s ⌝ }
+{
+    match s {
+        Sequel::End => false,
+        Sequel::Confirm => true,
     }
 }

@@ -25,6 +25,9 @@ enum-told c = search needs
 kind-of-requires : tie.Need-kind-of-requires
 kind-of-requires c κs = search needs
 
+sequel-of-requires : tie.Need-sequel-of-requires
+sequel-of-requires c κs = search needs
+
 returns : tie.Need-returns
 returns c = search ruled-cases
 
@@ -51,6 +54,7 @@ rule-spec =
     enum-known-r-4
     enum-told
     kind-of-requires
+    sequel-of-requires
     returns
     returns-2
     returns-3

@@ -20,23 +20,23 @@ returns-4 c = search ways depth 8
 returns-5 : tie.Need-returns-5
 returns-5 c = search ways depth 8
 
-returns-6 : tie.Need-returns-6
-returns-6 c = search ways depth 8
-
 is-aca-requires : tie.Need-is-aca-requires
 is-aca-requires c κs = search needs
 
-returns-7 : tie.Need-returns-7
-returns-7 c = search (no-numbers, and-ways) depth 8
+returns-6 : tie.Need-returns-6
+returns-6 c = search (no-numbers, and-ways) depth 8
 
 is-waiting-requires : tie.Need-is-waiting-requires
 is-waiting-requires c κs = search needs
 
+returns-7 : tie.Need-returns-7
+returns-7 c = search (no-numbers, and-ways) depth 8
+
+has-confirm-requires : tie.Need-has-confirm-requires
+has-confirm-requires c κs = search needs
+
 returns-8 : tie.Need-returns-8
 returns-8 c = search (no-numbers, and-ways) depth 8
-
-returns-9 : tie.Need-returns-9
-returns-9 c = search (no-numbers, and-ways) depth 8
 
 pub is-no-task-spec : {M : Type 1} → statement M
 is-no-task-spec =
@@ -47,9 +47,9 @@ is-no-task-spec =
     returns-3
     returns-4
     returns-5
-    returns-6
     is-aca-requires
-    returns-7
+    returns-6
     is-waiting-requires
-    returns-8
-    returns-9)
+    returns-7
+    has-confirm-requires
+    returns-8)

@@ -25,6 +25,9 @@ returns-2 c = search finish-ways
 claim-requires : tie.Need-claim-requires
 claim-requires c κs = search needs
 
+has-confirm-requires : tie.Need-has-confirm-requires
+has-confirm-requires c κs = search needs
+
 mul-b : tie.Need-mul-b
 mul-b c = search needs
 
@@ -33,16 +36,17 @@ element-set-from-b c = search needs
 
 returns-3 : tie.Need-returns-3
 returns-3 c =
-    let d = c .before .before in
+    let d = c .before .before .before in
+    let f = c .before .has-confirm .ensures in
     let k = d .if2 .left in
     let e = d .before .runs-in .ensures in
     let h = d .before .before .before .if1 .left in
     let args = d .before .before .before .before .args in
     let a = taskAt (args .t1) (args .i) in
     ⊎-elim
-    (λ w. finish-stays _ _ _ h e k (claims _ a (w .3) (w .2 .ensures) (w .0 .taken)) (c .if4 .taken))
-    (λ w. finish-stays _ _ _ h e k (claims-nothing _ a (w .1) (w .0 .left)) (c .if4 .taken))
-    (c .before .if3 .came)
+    (λ w. finish-stays _ _ _ h e k (claims _ a (w .3) (w .2 .ensures) (w .0 .taken)) f (c .if4 .taken))
+    (λ w. finish-stays _ _ _ h e k (claims-nothing _ a (w .1) (w .0 .left)) f (c .if4 .taken))
+    (c .before .before .if3 .came)
 
 running-as-requires : tie.Need-running-as-requires
 running-as-requires c κs = search needs
@@ -51,7 +55,7 @@ end-requires : tie.Need-end-requires
 end-requires c κs = search needs
 
 returns-4 : tie.Need-returns-4
-returns-4 c = ⊎-elim (λ w. search (needs, finish-ways)) (λ w. search (needs, finish-ways)) (c .before .before .before .if3 .came)
+returns-4 c = ⊎-elim (λ w. search (needs, finish-ways)) (λ w. search (needs, finish-ways)) (c .before .before .before .before .if3 .came)
 
 pub finish-spec : {M : Type 1} → statement M
 finish-spec =
@@ -63,6 +67,7 @@ finish-spec =
     runs-in-requires
     returns-2
     claim-requires
+    has-confirm-requires
     mul-b
     element-set-from-b
     returns-3
