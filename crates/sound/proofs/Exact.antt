@@ -131,7 +131,7 @@ module _ (a b : Task) where
     | inr e ↦ let f = both _ _ e in both-aca (f .0) (f .1) p
   ]
 
-  alike-clash : alike a b ≡ true → Clash a b
+  pub alike-clash : alike a b ≡ true → Clash a b
   alike-clash h = elim (either (eqb (a .arrival) (b .arrival)) _ h) [
     | inl e ↦ same-arrival (eqb-true _ _ e)
     | inr k ↦ elim (either (eqb (a .path) (b .path) && eqb (a .tag) (b .tag)) _ k) [

@@ -1,5 +1,7 @@
 -- The laws that the crates above cite; the cases of this crate's own functions.
 pub mod Exact
+pub mod Seeing
 pub mod Keeps
 pub mod Unique
 mod Checking
+mod Noting

@@ -6,6 +6,7 @@ use mathlib.Core.Bool.{Bool, true, false}
 use mathlib.Core.List.{List}
 use lib.ListN.{length, getD}
 use Rattle.task.specs.Tasks.{isAca, isRunning}
+use Rattle.task.specs.Map.{isLive}
 use Rattle.task.specs.Selections.{named, acaOn, runningOn}
 use Rattle.task.specs.declared.Kind.{Kind}
 use Rattle.task.specs.declared.Sequel.{Sequel}
@@ -18,7 +19,8 @@ use Rattle.table.specs.Tables.{markedIn, attentionGoneIn, resetAttentionIn, cle
 use Rattle.table.specs.Tables.{accepted, endedBy, alteredAt, started, restarted, finished, resetOf}
 use Rattle.table.specs.Setup.{badList, setupTable}
 use Rattle.table.specs.View.{Shaped}
-use Rattle.sound.specs.Sound.{Sound, soundOf}
+use Rattle.sound.specs.Sound.{Sound, alike, soundOf}
+use Rattle.sound.specs.Seen.{mayClash, seenBelow}
 use Rattle.table.specs.declared.Aca.the-variants.{Owned}
 use Rattle.table.specs.declared.Table.{Table}
 
@@ -26,6 +28,20 @@ use Rattle.table.specs.declared.Table.{Table}
 
 abbrev pub CheckIsExact : Type 0
 CheckIsExact = (t : Table) → (soundOf t ≡ true → Sound t) × (Sound t → soundOf t ≡ true)
+
+-- where none of a task's bits is set, no live record below shares its name, its arrival number or what a unit can
+-- have once
+abbrev pub ClearIsFree : Type 0
+ClearIsFree = (t : Table) (i j : ℕ) (a : Task) → mayClash (seenBelow t i) a ≡ false → j < i → isLive (t .live) j ≡ true
+    → alike a (taskAt t j) ≡ false
+
+-- there is a live record and a task of which none of the bits is set, and one of which a bit is set that shares nothing
+-- with it: the bits alone do not say that two clash
+abbrev pub SomeAreClear : Type 0
+SomeAreClear = (t : Table) × (a : Task) × (isLive (t .live) 0 ≡ true) × (mayClash (seenBelow t 1) a ≡ false)
+
+abbrev pub SomeShareABit : Type 0
+SomeShareABit = (t : Table) × (a : Task) × (isLive (t .live) 0 ≡ true) × (mayClash (seenBelow t 1) a ≡ true) × (alike a (taskAt t 0) ≡ false)
 
 -- ---- sound, and of the machine's shape
 

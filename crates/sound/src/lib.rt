@@ -7,6 +7,7 @@ use crate::clauses::clash;
 use crate::clauses::is_no_path;
 use crate::clauses::record_ok;
 use crate::clauses::unit_ok;
+use crate::seen::WORDS;
 use table::MOST_PATHS;
 use table::PATHS;
 use table::Table;
@@ -14,6 +15,7 @@ use table::UNITS;
 use task::RECORDS;
 
 pub mod clauses;
+mod seen;
 
 // 1 to 8 paths.
 fn count_ok(t: Table) -> bool
@@ -94,22 +96,29 @@ fn units_ok(t: Table) -> bool
     true
 }
 
-// The pairwise walk over the records, left at the first clash.
+// The pairwise walk over the records, left at the first clash. A live record is held against those below it only where
+// the map of what was seen says that one of them may share something with it.
 fn clashes(t: Table) -> bool
     ensures { λ r. ⌜ r ≡ Sound.clashes t ⌝ }
 {
+    let mut seen = [0u64; WORDS];
     let mut found = false;
     let mut i: usize = 0;
     'walk: while i < RECORDS {
         let a = t.tasks[i];
-        let mut j: usize = 0;
-        while j < i {
-            let b = t.tasks[j];
-            if clash(t.live, i, a, j, b) {
-                found = true;
-                break 'walk;
+        if task::map::is_live(t.live, i) {
+            if crate::seen::may_clash(&seen, a) {
+                let mut j: usize = 0;
+                while j < i {
+                    let b = t.tasks[j];
+                    if clash(t.live, i, a, j, b) {
+                        found = true;
+                        break 'walk;
+                    }
+                    j += 1;
+                }
             }
-            j += 1;
+            crate::seen::note(&mut seen, a);
         }
         i += 1;
     }
