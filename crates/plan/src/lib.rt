@@ -183,7 +183,7 @@ fn kind_of(q: Queue) -> Kind
     Kind::Simple
 }
 
-// What follows the finish of a command: CONFIRM set or clear.
+// What follows the finish of a command, by its CONFIRM bit.
 fn sequel_of(confirm: bool) -> Sequel
     ensures { λ r. ⌜ r ≡ sequelOf confirm ⌝ }
 {

@@ -5,7 +5,7 @@ use mathlib.Core.Path.{_≡_}
 use mathlib.Core.Bool.{Bool, false, not, _&&_, _||_}
 use lib.Dec.{eqb, ltb}
 use Rattle.task.specs.Index.{someBelow}
-use Rattle.task.specs.Tasks.{isAca, isWaiting, hasConfirm}
+use Rattle.task.specs.Tasks.{isAca, isWaiting, isEnd}
 use Rattle.task.specs.declared.Task.{Task}
 use Rattle.task.proofs.Ways.{equal, below, past, and-no, and-yes}
 use Rattle.table.specs.Tables.{pathAt, unitAt, taskAt, acaAt, pathOf, bitOf}
@@ -38,7 +38,7 @@ module _ (t : Table) where
 -- ---- a record whose numbers are all 0: what else is asked of it
 
 pub no-numbers : (a : Task) {r : Bool} → a .arrival ≡ 0 → a .position ≡ 0 → a .tag ≡ 0 → a .path ≡ 0 → a .unit ≡ 0
-    → r ≡ (isAca (a .kind) && (isWaiting (a .phase) && not (hasConfirm (a .sequel)))) → r ≡ isNoTask a
+    → r ≡ (isAca (a .kind) && (isWaiting (a .phase) && isEnd (a .sequel))) → r ≡ isNoTask a
 no-numbers a n b t p u e = and-yes (equal n) (and-yes (equal b) (and-yes (equal t) (and-yes (equal p) (and-yes (equal u) e))))
 
 -- ---- an ACA with an owner

@@ -9,7 +9,7 @@ use mathlib.Core.Logic.{inl, inr}
 use native.Mathlib.Omega.{arith}
 use lib.Dec.{eqb, ltb, leb}
 use borrow.Author.Tests.{ltb-true, ltb-false, leb-true, eqb-true, eqb-false, not-true, lt-ltb, le-ltb, le-leb, eq-eqb, ne-eqb}
-use Rattle.task.specs.Tasks.{noTask, isAca, isWaiting, isRunning, hasConfirm}
+use Rattle.task.specs.Tasks.{noTask, isAca, isWaiting, isRunning, isEnd}
 use Rattle.task.specs.Map.{isLive}
 use Rattle.task.specs.declared.Kind.{Kind}
 use Rattle.task.specs.declared.Kind.the-variants as kind
@@ -53,9 +53,9 @@ phase-zero phase.Waiting h = refl
 phase-zero phase.Running h = absurd (never h refl)
 phase-zero phase.Unconfirmed h = absurd (never h refl)
 
-sequel-zero : (s : Sequel) → hasConfirm s ≡ false → s ≡ sequel.End
+sequel-zero : (s : Sequel) → isEnd s ≡ true → s ≡ sequel.End
 sequel-zero sequel.End h = refl
-sequel-zero sequel.Confirm h = absurd (never refl h)
+sequel-zero sequel.Confirm h = absurd (never h refl)
 
 attention-zero : (a : Attention) → isNothing a ≡ true → a ≡ attention.Nothing
 attention-zero attention.Nothing h = refl
@@ -87,7 +87,7 @@ task-zero a h =
     let unit : a .unit ≡ 0 = eqb-true _ _ (l .0) in
     let kind : a .kind ≡ kind.Aca = aca-zero _ (m .0) in
     let phase : a .phase ≡ phase.Waiting = phase-zero _ (n .0) in
-    let sequel : a .sequel ≡ sequel.End = sequel-zero _ (not-true _ (n .1)) in
+    let sequel : a .sequel ≡ sequel.End = sequel-zero _ (n .1) in
     λ i. record {
       arrival = arrival i;
       position = position i;

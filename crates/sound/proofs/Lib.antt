@@ -4,4 +4,4 @@ pub mod Seeing
 pub mod Keeps
 pub mod Unique
 mod Checking
-mod Noting
+mod SeenCases

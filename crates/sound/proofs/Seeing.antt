@@ -9,8 +9,8 @@ use native.Mathlib.Decide.{ℕ-discrete}
 use native.Mathlib.Omega.{arith}
 use lib.ListN.{length, getD, set, length-set}
 use lib.Seq.{getD-set-same, getD-set-other, set-out}
-use Rattle.task.specs.Index.{first, someBelow}
-use Rattle.task.specs.Tasks.{isAca, isRunning, acceptedAs}
+use Rattle.task.specs.Index.{first, someBelow, allBelow}
+use Rattle.task.specs.Tasks.{isAca, isRunning}
 use Rattle.task.specs.Map.{isLive, lowestFree, withBit}
 use Rattle.task.specs.declared.Kind.the-variants.{Simple}
 use Rattle.task.specs.declared.Sequel.the-variants.{End}
@@ -19,11 +19,11 @@ use Rattle.wire.proofs.Table.{cond-ind}
 use Rattle.task.proofs.Ways.{either-way, never}
 use Rattle.task.proofs.Places.{below-suc, lt-or-le, some-none}
 use Rattle.task.proofs.Maps.{with-same, with-other}
-use Rattle.table.specs.Tables.{taskAt, zeroTable, hasRoom, accepted}
+use Rattle.table.specs.Tables.{taskAt, placeOf, zeroTable, hasRoom, accepted}
 use Rattle.table.specs.Setup.{badList, freshPaths, pathsOf, freshTable, setupTable}
-use Rattle.sound.specs.Sound.{alike}
+use Rattle.sound.specs.Sound.{alike, countOk, pathsDistinct, unusedZero, recordsOk, unitsOk, clashes, soundOf}
 use Rattle.sound.specs.Seen.{nameBit, numberBit, runningBit, acaBit}
-use Rattle.sound.specs.Seen.{isSeen, withSeen, withSeenIf, mayClash, noted, seenBelow}
+use Rattle.sound.specs.Seen.{isSeen, withSeen, withSeenIf, mayClash, withBitsOf, seenBelow}
 use Rattle.sound.specs.Promises.{ClearIsFree, SomeAreClear, SomeShareABit}
 use Rattle.table.specs.declared.Table.{Table}
 use Rattle.sound.proofs.Checking.{clashAt}
@@ -103,26 +103,26 @@ module _ (seen : List ℕ) (a : Task) where
   length-running : length withRunning ≡ length seen
   length-running = length-with numbered (isRunning (a .phase)) (runningBit a) ∙ length-numbered
 
-  pub length-noted : length (noted seen a) ≡ length seen
-  unfolding noted
-  length-noted = length-with withRunning (isAca (a .kind)) (acaBit a) ∙ length-running
+  pub length-bits : length (withBitsOf seen a) ≡ length seen
+  unfolding withBitsOf
+  length-bits = length-with withRunning (isAca (a .kind)) (acaBit a) ∙ length-running
 
-  from-running : (k : ℕ) → isSeen withRunning k ≡ true → isSeen (noted seen a) k ≡ true
-  unfolding noted
+  from-running : (k : ℕ) → isSeen withRunning k ≡ true → isSeen (withBitsOf seen a) k ≡ true
+  unfolding withBitsOf
   from-running k = seen-stays-if withRunning (isAca (a .kind)) (acaBit a) k
 
-  from-numbered : (k : ℕ) → isSeen numbered k ≡ true → isSeen (noted seen a) k ≡ true
+  from-numbered : (k : ℕ) → isSeen numbered k ≡ true → isSeen (withBitsOf seen a) k ≡ true
   from-numbered k h = from-running k (seen-stays-if numbered (isRunning (a .phase)) (runningBit a) k h)
 
-  from-named : (k : ℕ) → isSeen named k ≡ true → isSeen (noted seen a) k ≡ true
+  from-named : (k : ℕ) → isSeen named k ≡ true → isSeen (withBitsOf seen a) k ≡ true
   from-named k h = from-numbered k (seen-stays named (numberBit a) k h)
 
-  pub noted-stays : (k : ℕ) → isSeen seen k ≡ true → isSeen (noted seen a) k ≡ true
-  noted-stays k h = from-named k (seen-stays seen (nameBit a) k h)
+  pub bits-stay : (k : ℕ) → isSeen seen k ≡ true → isSeen (withBitsOf seen a) k ≡ true
+  bits-stay k h = from-named k (seen-stays seen (nameBit a) k h)
 
-  pub noted-sets : length seen ≡ 17 → AllSet (noted seen a) a
-  unfolding noted
-  noted-sets e = record {
+  pub bits-set : length seen ≡ 17 → AllSet (withBitsOf seen a) a
+  unfolding withBitsOf
+  bits-set e = record {
     name = from-named (nameBit a) (set-is-seen seen (nameBit a) (omega arith));
     number = from-numbered (numberBit a) (set-is-seen named (numberBit a) (omega (arith, length-named)));
     running = λ h.
@@ -130,12 +130,12 @@ module _ (seen : List ℕ) (a : Task) where
     aca = λ h. rw h (set-is-seen withRunning (acaBit a) (omega (arith, length-running)));
   }
 
-  pub all-stays : (b : Task) → AllSet seen b → AllSet (noted seen a) b
+  pub all-stays : (b : Task) → AllSet seen b → AllSet (withBitsOf seen a) b
   all-stays b s = record {
-    name = noted-stays (nameBit b) (s .name);
-    number = noted-stays (numberBit b) (s .number);
-    running = λ h. noted-stays (runningBit b) (s .running h);
-    aca = λ h. noted-stays (acaBit b) (s .aca h);
+    name = bits-stay (nameBit b) (s .name);
+    number = bits-stay (numberBit b) (s .number);
+    running = λ h. bits-stay (runningBit b) (s .running h);
+    aca = λ h. bits-stay (acaBit b) (s .aca h);
   }
 
 -- ---- the bits of the live records below a place
@@ -146,7 +146,7 @@ module _ (t : Table) where
   length-below zero = refl
   length-below (suc i) =
       cond-ind (λ (l : List ℕ). length l ≡ 17) (isLive (t .live) i)
-      (λ _. length-noted (seenBelow t i) (taskAt t i) ∙ length-below i) (λ _. length-below i)
+      (λ _. length-bits (seenBelow t i) (taskAt t i) ∙ length-below i) (λ _. length-below i)
 
   pub below-all-set : (i j : ℕ) → j < i → isLive (t .live) j ≡ true → AllSet (seenBelow t i) (taskAt t j)
   unfolding seenBelow
@@ -155,7 +155,7 @@ module _ (t : Table) where
       ⊎-elim
       (λ (q : j ≡ i).
       let k : isLive (t .live) i ≡ true = rw q at h in
-      rw (k, q) (noted-sets (seenBelow t i) (taskAt t i) (length-below i)))
+      rw (k, q) (bits-set (seenBelow t i) (taskAt t i) (length-below i)))
       (λ m.
       let s : AllSet (seenBelow t i) (taskAt t j) = below-all-set i j m h in
       cond-ind (λ (l : List ℕ). AllSet l (taskAt t j)) (isLive (t .live) i)
@@ -189,19 +189,19 @@ module _ (t : Table) (i : ℕ) where
   pub dead-below : isLive (t .live) i ≡ false → someBelow i (clashAt t i) ≡ false
   dead-below h = some-none i (clashAt t i) (λ j l. rw h (and-false (alike (taskAt t i) (taskAt t j))))
 
--- ---- tasks beside a record that is live: path 0, tag 0000h, number 1
+-- ---- sound tables of two commands of path 0, with tag 0000h and another
 
 unfoldable computing : Unit {0}
-unfolding accepted hasRoom lowestFree first withBit setupTable badList zeroTable freshTable pathsOf freshPaths someBelow seenBelow mayClash noted
+unfolding first someBelow allBelow lowestFree withBit zeroTable hasRoom accepted placeOf badList freshPaths pathsOf freshTable setupTable countOk pathsDistinct unusedZero recordsOk unitsOk clashes soundOf mayClash withBitsOf seenBelow
 computing = tt
 
-abbrev one : Table
-one = accepted (setupTable (1 ∷ []) 1 1) 0 0 0 Simple End
+two : ℕ → Table
+two tag = accepted (accepted (setupTable (1 ∷ []) 1 1) 0 0 0 Simple End) 0 tag 0 Simple End
 
 pub some-are-clear : SomeAreClear
-unfolding computing
-some-are-clear = (one, acceptedAs 2 0 1 0 Simple End, refl, refl)
+unfolding computing two
+some-are-clear = (two 1, refl, refl, refl, refl)
 
 pub some-share-a-bit : SomeShareABit
-unfolding computing
-some-share-a-bit = (one, acceptedAs 513 0 1 0 Simple End, refl, refl, refl)
+unfolding computing two
+some-share-a-bit = (two 512, refl, refl, refl, refl)

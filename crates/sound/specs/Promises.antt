@@ -1,5 +1,5 @@
--- What is promised beside the contracts: the check is exact, setup gives a sound table, and each change keeps a table
--- sound under the condition that the engine has. Each is proved in proofs/.
+-- What is promised beside the contracts: the check is exact, its map of what was seen misses no clash, setup gives a
+-- sound table, and each change keeps a table sound under the condition that the engine has. Each is proved in proofs/.
 use Prim.Native.Nat.{ℕ, _<_, _^_}
 use mathlib.Core.Path.{_≡_}
 use mathlib.Core.Bool.{Bool, true, false}
@@ -29,19 +29,21 @@ use Rattle.table.specs.declared.Table.{Table}
 abbrev pub CheckIsExact : Type 0
 CheckIsExact = (t : Table) → (soundOf t ≡ true → Sound t) × (Sound t → soundOf t ≡ true)
 
+-- ---- the map of what was seen misses no clash
+
 -- where none of a task's bits is set, no live record below shares its name, its arrival number or what a unit can
 -- have once
 abbrev pub ClearIsFree : Type 0
 ClearIsFree = (t : Table) (i j : ℕ) (a : Task) → mayClash (seenBelow t i) a ≡ false → j < i → isLive (t .live) j ≡ true
     → alike a (taskAt t j) ≡ false
 
--- there is a live record and a task of which none of the bits is set, and one of which a bit is set that shares nothing
--- with it: the bits alone do not say that two clash
+-- there are sound tables whose record 1 has none of its bits set by record 0, and the walk has nothing to do
 abbrev pub SomeAreClear : Type 0
-SomeAreClear = (t : Table) × (a : Task) × (isLive (t .live) 0 ≡ true) × (mayClash (seenBelow t 1) a ≡ false)
+SomeAreClear = (t : Table) × (soundOf t ≡ true) × (isLive (t .live) 0 ≡ true) × (isLive (t .live) 1 ≡ true) × (mayClash (seenBelow t 1) (taskAt t 1) ≡ false)
 
+-- and there are sound tables where one is set: the bits alone do not say that two clash
 abbrev pub SomeShareABit : Type 0
-SomeShareABit = (t : Table) × (a : Task) × (isLive (t .live) 0 ≡ true) × (mayClash (seenBelow t 1) a ≡ true) × (alike a (taskAt t 0) ≡ false)
+SomeShareABit = (t : Table) × (soundOf t ≡ true) × (isLive (t .live) 0 ≡ true) × (isLive (t .live) 1 ≡ true) × (mayClash (seenBelow t 1) (taskAt t 1) ≡ true)
 
 -- ---- sound, and of the machine's shape
 

@@ -3,7 +3,7 @@
 -- these set the same bit. So where none of a record's bits is set, no live record below clashes with it; a bit that is
 -- set says nothing, and the walk decides.
 use Prim.Native.Nat.{ℕ, zero, suc, _+_, _*_, _/_, _%_}
-use mathlib.Core.Bool.{Bool, true, cond, _||_, _&&_}
+use mathlib.Core.Bool.{Bool, cond, _||_, _&&_}
 use mathlib.Core.List.{List}
 use lib.ListN.{getD, set, replicate}
 use Rattle.task.specs.Tasks.{isAca, isRunning}
@@ -14,7 +14,7 @@ use Rattle.table.specs.declared.Table.{Table}
 
 -- ---- which bits are a task's
 
--- one of 512 for its name, which is path and tag; the tags of each path begin 64 bits after those of the one before
+-- one of 512 for its name, which is path and tag; the tags of each path begin 64 behind those of the one before
 abbrev pub nameBit : Task → ℕ
 nameBit a = (a .path * 64 + a .tag) % 512
 
@@ -47,13 +47,11 @@ mayClash seen a =
     || ((isRunning (a .phase) && isSeen seen (runningBit a)) || (isAca (a .kind) && isSeen seen (acaBit a))))
 
 -- the task's bits set
-unfoldable pub noted : List ℕ → Task → List ℕ
-noted seen a =
-    withSeenIf (isAca (a .kind))
-    (withSeenIf (isRunning (a .phase)) (withSeenIf true (withSeenIf true seen (nameBit a)) (numberBit a)) (runningBit a))
-    (acaBit a)
+unfoldable pub withBitsOf : List ℕ → Task → List ℕ
+withBitsOf seen a =
+    withSeenIf (isAca (a .kind)) (withSeenIf (isRunning (a .phase)) (withSeen (withSeen seen (nameBit a)) (numberBit a)) (runningBit a)) (acaBit a)
 
 -- the bits of the live records below i
 unfoldable pub seenBelow : Table → ℕ → List ℕ
 seenBelow t zero = replicate 17 0
-seenBelow t (suc i) = cond (isLive (t .live) i) (noted (seenBelow t i) (taskAt t i)) (seenBelow t i)
+seenBelow t (suc i) = cond (isLive (t .live) i) (withBitsOf (seenBelow t i) (taskAt t i)) (seenBelow t i)

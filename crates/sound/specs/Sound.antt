@@ -6,7 +6,7 @@ use mathlib.Core.Bool.{Bool, true, cond, not, _||_, _&&_}
 use mathlib.Core.Option.{none, some}
 use lib.Dec.{eqb, ltb, leb}
 use Rattle.task.specs.Index.{allBelow, someBelow}
-use Rattle.task.specs.Tasks.{noTask, isAca, isWaiting, isRunning, hasConfirm}
+use Rattle.task.specs.Tasks.{noTask, isAca, isWaiting, isRunning, isEnd}
 use Rattle.task.specs.Map.{isLive}
 use Rattle.task.specs.declared.Task.{Task}
 use Rattle.table.specs.Tables.{noPath, pathAt, unitAt, taskAt, bitOf, isAttached, isNothing, ownedBy, acaAt, pathOf}
@@ -54,7 +54,7 @@ isNoPath a = eqb (a .id) 0 && (not (a .full) && isNothing (a .attention))
 abbrev pub isNoTask : Task → Bool
 isNoTask a =
     eqb (a .arrival) 0 && (eqb (a .position) 0 && (eqb (a .tag) 0
-    && (eqb (a .path) 0 && (eqb (a .unit) 0 && (isAca (a .kind) && (isWaiting (a .phase) && not (hasConfirm (a .sequel))))))))
+    && (eqb (a .path) 0 && (eqb (a .unit) 0 && (isAca (a .kind) && (isWaiting (a .phase) && isEnd (a .sequel)))))))
 
 -- an ACA task only under an ACA of its path
 abbrev pub mayStand : Aca → Task → Bool

@@ -49,7 +49,7 @@ pub fn is_no_task(a: Task) -> bool
         return false;
     }
     let sequel = a.sequel;
-    !task::has_confirm(sequel)
+    task::is_end(sequel)
 }
 
 // An ACA task only on a unit with ACA, only from its owner.
@@ -152,8 +152,7 @@ fn cannot_share_unit(a: Task, b: Task) -> bool
     false
 }
 
-// Records i and j hold the tasks a and b that can't both be live, and are. Few pairs are alike, so that is asked
-// first.
+// Records i and j hold the tasks a and b that can't both be live, and are.
 pub(crate) fn clash(live: u64, i: usize, a: Task, j: usize, b: Task) -> bool
     ensures { λ r. ⌜ r ≡ clashOf live i a j b ⌝ }
 {

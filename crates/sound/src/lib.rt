@@ -8,7 +8,6 @@ use crate::clauses::is_no_path;
 use crate::clauses::record_ok;
 use crate::clauses::unit_ok;
 use crate::seen::WORDS;
-use table::MOST_PATHS;
 use table::PATHS;
 use table::Table;
 use table::UNITS;
@@ -24,7 +23,7 @@ fn count_ok(t: Table) -> bool
     if t.count == 0 {
         return false;
     }
-    t.count <= MOST_PATHS
+    t.count as usize <= PATHS
 }
 
 // Every listed path is the first with its id.
@@ -118,7 +117,7 @@ fn clashes(t: Table) -> bool
                     j += 1;
                 }
             }
-            crate::seen::note(&mut seen, a);
+            crate::seen::set_bits(&mut seen, a);
         }
         i += 1;
     }

@@ -1,49 +1,52 @@
-// The map of what was seen, in front of the pairwise walk: each live record leaves a bit for what no other may share
-// with it. Where none of a record's bits is set, no record below clashes with it; where one is, the walk decides.
+// The map of what was seen, in front of the pairwise walk: each live record sets a bit for each thing that no other may
+// share with it. Where none of a record's bits is set, no record below clashes with it; where one is, the walk decides.
 ghost use mathlib.Core.Path.{_≡_};
 ghost use Rattle.sound.specs.Seen;
-ghost use Rattle.sound.specs.Seen.{nameBit, numberBit, runningBit, acaBit, isSeen, withSeenIf, noted};
+ghost use Rattle.sound.specs.Seen.{nameBit, numberBit, runningBit, acaBit, isSeen, withSeenIf, withBitsOf};
+use table::PATHS;
 use table::UNITS;
 use task::Task;
 
-// The bits of names and of arrival numbers; after them those of the units, once where a task runs and once where an ACA
-// task is.
+// How many bits there are for names and for arrival numbers. Behind them stand those of the units, once for where a
+// task runs and once for where an ACA task is.
 const NAMES: usize = 512;
 
 const NUMBERS: usize = 512;
 
-const RUNNING: usize = NAMES + NUMBERS;
+const FIRST_NUMBER: usize = NAMES;
 
-const ACA: usize = RUNNING + UNITS;
+const FIRST_RUNNING: usize = FIRST_NUMBER + NUMBERS;
 
-// The bits of a word, and the words of the map.
+const FIRST_ACA: usize = FIRST_RUNNING + UNITS;
+
+// The bits of a word, and the words of the map. A word is read and written as the map of live records is.
 const WORD: usize = 64;
 
-pub(crate) const WORDS: usize = RUNNING / WORD + 1;
+pub(crate) const WORDS: usize = (FIRST_ACA + UNITS + WORD - 1) / WORD;
 
-// A name is a path and a tag; the tags of each path begin a word after those of the path before.
+// A name is a path and a tag. The paths share the bits: the tags of each begin 64 behind those of the one before.
 fn name_bit(a: Task) -> usize
     ensures { λ r. ⌜ r ≡ nameBit a ⌝ }
 {
-    (a.path as usize * WORD + a.tag as usize) % NAMES
+    (a.path as usize * (NAMES / PATHS) + a.tag as usize) % NAMES
 }
 
 fn number_bit(a: Task) -> usize
     ensures { λ r. ⌜ r ≡ numberBit a ⌝ }
 {
-    NAMES + (a.arrival % NUMBERS as u64) as usize
+    FIRST_NUMBER + (a.arrival % NUMBERS as u64) as usize
 }
 
 fn running_bit(a: Task) -> usize
     ensures { λ r. ⌜ r ≡ runningBit a ⌝ }
 {
-    RUNNING + a.unit as usize % UNITS
+    FIRST_RUNNING + a.unit as usize % UNITS
 }
 
 fn aca_bit(a: Task) -> usize
     ensures { λ r. ⌜ r ≡ acaBit a ⌝ }
 {
-    ACA + a.unit as usize % UNITS
+    FIRST_ACA + a.unit as usize % UNITS
 }
 
 // Whether bit k is set; there is none past the map's end.
@@ -58,7 +61,7 @@ fn is_seen(seen: &[u64], k: usize) -> bool
 }
 
 // Bit k set, where it is asked for; past the map's end nothing changes.
-fn see_if(asked: bool, seen: &mut [u64], k: usize)
+fn set_bit_if(asked: bool, seen: &mut [u64], k: usize)
     ensures { λ _. ⌜ now (seen .exit) ≡ withSeenIf asked (now (seen .entry)) k ⌝ }
 {
     let w = k / WORD;
@@ -96,13 +99,13 @@ pub(crate) fn may_clash(seen: &[u64], a: Task) -> bool
 }
 
 // The task's bits set.
-pub(crate) fn note(seen: &mut [u64], a: Task)
-    ensures { λ _. ⌜ now (seen .exit) ≡ noted (now (seen .entry)) a ⌝ }
+pub(crate) fn set_bits(seen: &mut [u64], a: Task)
+    ensures { λ _. ⌜ now (seen .exit) ≡ withBitsOf (now (seen .entry)) a ⌝ }
 {
     let phase = a.phase;
     let kind = a.kind;
-    see_if(true, seen, name_bit(a));
-    see_if(true, seen, number_bit(a));
-    see_if(task::is_running(phase), seen, running_bit(a));
-    see_if(task::is_aca(kind), seen, aca_bit(a));
+    set_bit_if(true, seen, name_bit(a));
+    set_bit_if(true, seen, number_bit(a));
+    set_bit_if(task::is_running(phase), seen, running_bit(a));
+    set_bit_if(task::is_aca(kind), seen, aca_bit(a));
 }

@@ -47,7 +47,7 @@ pub struct Table {
 pub const PATHS: usize = 8;
 
 // The same limit as a byte, in which a table counts its paths and names their places.
-pub const MOST_PATHS: u8 = PATHS as u8;
+pub(crate) const MOST_PATHS: u8 = PATHS as u8;
 
 pub const UNITS: usize = 8;
 

@@ -8,6 +8,7 @@ answers-are-one = record {
   is-aca = λ _ _ _. determined;
   is-waiting = λ _ _ _. determined;
   is-running = λ _ _ _. determined;
+  is-end = λ _ _ _. determined;
   has-confirm = λ _ _ _. determined;
   lowest-free = λ _ _ _. determined;
   live-count = λ _ _ _. determined;

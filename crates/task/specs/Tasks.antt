@@ -1,5 +1,5 @@
--- A task's record: the numbers of kinds and phases, what its position means, the wiped record, a task as its command
--- is accepted, and how it changes while it is live.
+-- A task's record: the numbers of kinds and phases, what follows its finish, what its position means, the wiped record,
+-- a task as its command is accepted, and how it changes while it is live.
 use Prim.Native.Nat.{ℕ}
 use mathlib.Core.Bool.{Bool, true, false}
 use Rattle.wire.specs.Codes
@@ -50,12 +50,17 @@ isUnconfirmed phase.Waiting = false
 isUnconfirmed phase.Running = false
 isUnconfirmed phase.Unconfirmed = true
 
--- what follows a finish: the task ends, or with CONFIRM it waits to be confirmed
+-- what follows a finish: the task ends; or, its command had CONFIRM, it waits to be confirmed
+abbrev pub isEnd : Sequel → Bool
+isEnd sequel.End = true
+isEnd sequel.Confirm = false
+
 abbrev pub hasConfirm : Sequel → Bool
 hasConfirm sequel.End = false
 hasConfirm sequel.Confirm = true
 
--- ---- the position: a place in the command's data, counted from its beginning
+-- ---- the position: how many bytes into the command's data. Both names are the field itself, and the phase says which
+-- is meant
 
 -- while the task waits or runs it is the offset that it starts at: that of its last restart, or 0
 abbrev pub offsetOf : Task → ℕ
@@ -107,7 +112,7 @@ inPhase phase position a = record {
   sequel = a .sequel;
 }
 
--- it runs, from the offset that it waited with
+-- it runs; its position stays, which for a task that waits is its offset
 abbrev pub runs : Task → Task
 runs a = inPhase phase.Running (offsetOf a) a
 

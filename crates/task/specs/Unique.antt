@@ -2,7 +2,7 @@
 -- proofs/Unique.antt.
 use Prim.Native.Nat.{ℕ}
 use mathlib.Core.List.{List}
-use Rattle.task.specs.Tasks.{noTask, isAca, isWaiting, isRunning, hasConfirm}
+use Rattle.task.specs.Tasks.{noTask, isAca, isWaiting, isRunning, isEnd, hasConfirm}
 use Rattle.task.specs.Map.{isLive, lowestFree, liveCount, withBit, withoutBit}
 use Rattle.task.specs.Selections.{picksLive, named, numberedAs, onUnit, fromOn, acaOn, acaFromOn, runningOn, waitingOn, acaWaitingOn, runningAs}
 use Rattle.task.specs.Scan.{scan}
@@ -18,6 +18,7 @@ pub record AnswersAreOne : Type 0 where
   pub is-aca : (k : Kind) → One (isAca k)
   pub is-waiting : (p : Phase) → One (isWaiting p)
   pub is-running : (p : Phase) → One (isRunning p)
+  pub is-end : (s : Sequel) → One (isEnd s)
   pub has-confirm : (s : Sequel) → One (hasConfirm s)
   pub lowest-free : (live : ℕ) → One (lowestFree live)
   pub live-count : (live : ℕ) → One (liveCount live)

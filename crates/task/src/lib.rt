@@ -1,7 +1,7 @@
 // A task's record, the map of live records, which tasks a selection picks, and the scan of lent records. It knows no
 // message and no table.
 ghost use mathlib.Core.Path.{_≡_};
-ghost use Rattle.task.specs.Tasks.{noTask, kindNumber, phaseNumber, isAca, isWaiting, isRunning, hasConfirm};
+ghost use Rattle.task.specs.Tasks.{noTask, kindNumber, phaseNumber, isAca, isWaiting, isRunning, isEnd, hasConfirm};
 
 pub mod map;
 pub mod scan;
@@ -25,17 +25,17 @@ pub enum Phase {
     Unconfirmed,
 }
 
-// What follows a finish: the task ends, or with CONFIRM it waits to be confirmed. It is one thing or another, never
-// two.
+// What follows a finish: the task ends, or with CONFIRM it waits to be confirmed. One enum, since CONFIRM and LINK
+// (M-112) never go together.
 pub enum Sequel {
     End,
     Confirm,
 }
 
 // A task's record, 24 bytes: fields lie in the order written, the widest first. The path is its place in the path
-// list. The position is a place in the command's data, counted from its beginning: while the task waits or runs, the
-// offset that it starts at (that of its last restart, or 0); while it waits to be confirmed, the bytes that the finish
-// said were transferred.
+// list. The position is how many bytes into the command's data: while the task waits or runs, the offset that it
+// starts at (that of its last restart, or 0); while it waits to be confirmed, the bytes that the finish said were
+// transferred.
 pub struct Task {
     pub arrival: u64,
     pub position: u64,
@@ -113,6 +113,15 @@ pub fn is_running(p: Phase) -> bool
         Phase::Waiting => false,
         Phase::Running => true,
         Phase::Unconfirmed => false,
+    }
+}
+
+pub fn is_end(s: Sequel) -> bool
+    ensures { λ r. ⌜ r ≡ isEnd s ⌝ }
+{
+    match s {
+        Sequel::End => true,
+        Sequel::Confirm => false,
     }
 }
 

@@ -12,7 +12,7 @@ use Rattle.task.proofs.Loops.{some-more, some-hit, some-end}
 use Rattle.sound.specs.Sound.{clashes}
 use Rattle.sound.specs.Seen.{seenBelow}
 use Rattle.sound.proofs.Checking.{clashAt, clashBelow}
-use Rattle.sound.proofs.Noting.{map-length, clear-clashes, dead-clashes, live-noted, dead-noted}
+use Rattle.sound.proofs.SeenCases.{map-length, clear-clashes, dead-clashes, live-bits, dead-bits}
 use Rattle.sound.proofs.clashes.Statement.{statement}
 use Rattle.sound.proofs.clashes.Tie as tie
 
@@ -72,11 +72,11 @@ loop-again c =
     let l = c .before .before .before .before .loop in
     (omega arith, l .inv .1, some-more _ _ (l .inv .2) (c .before .clash .ensures) (c .if3 .left))
 
-slice-aggregate-note : tie.Need-slice-aggregate-note Inv-loop μ-loop Inv-walk μ-walk
-slice-aggregate-note c = map-length _ _ (c .before .before .before .before .before .before .before .before .walk .inv .3)
+slice-aggregate-set-bits : tie.Need-slice-aggregate-set-bits Inv-loop μ-loop Inv-walk μ-walk
+slice-aggregate-set-bits c = map-length _ _ (c .before .before .before .before .before .before .before .before .walk .inv .3)
 
-note-requires : tie.Need-note-requires Inv-loop μ-loop Inv-walk μ-walk
-note-requires c κs = omega arith
+set-bits-requires : tie.Need-set-bits-requires Inv-loop μ-loop Inv-walk μ-walk
+set-bits-requires c κs = omega arith
 
 add-i : tie.Need-add-i Inv-loop μ-loop Inv-walk μ-walk
 add-i c = omega arith
@@ -97,13 +97,13 @@ walk-again c =
       omega arith,
       p .8 ∙ met .0,
       some-more _ _ (w .inv .2) (met .1) refl,
-      live-noted t (w .i) live (w .inv .3) (p .0 .taken) (p .7 ∙ p .5 .ensures),
+      live-bits t (w .i) live (w .inv .3) (p .0 .taken) (p .7 ∙ p .5 .ensures),
     ))
     (λ p. (
       omega arith,
       p .2 ∙ w .inv .1,
       some-more _ _ (w .inv .2) (dead-clashes t (w .i) live (p .0 .left)) refl,
-      p .1 ∙ dead-noted t (w .i) live (w .inv .3) (p .0 .left),
+      p .1 ∙ dead-bits t (w .i) live (w .inv .3) (p .0 .left),
     )) (c .if1 .came)
 
 returns : tie.Need-returns Inv-loop μ-loop Inv-walk μ-walk
@@ -143,8 +143,8 @@ clashes-spec =
     add-j
     loop-less
     loop-again
-    slice-aggregate-note
-    note-requires
+    slice-aggregate-set-bits
+    set-bits-requires
     add-i
     walk-less
     walk-again

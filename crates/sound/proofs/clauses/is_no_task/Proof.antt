@@ -32,8 +32,8 @@ is-waiting-requires c κs = search needs
 returns-7 : tie.Need-returns-7
 returns-7 c = search (no-numbers, and-ways) depth 8
 
-has-confirm-requires : tie.Need-has-confirm-requires
-has-confirm-requires c κs = search needs
+is-end-requires : tie.Need-is-end-requires
+is-end-requires c κs = search needs
 
 returns-8 : tie.Need-returns-8
 returns-8 c = search (no-numbers, and-ways) depth 8
@@ -51,5 +51,5 @@ is-no-task-spec =
     returns-6
     is-waiting-requires
     returns-7
-    has-confirm-requires
+    is-end-requires
     returns-8)

@@ -1,6 +1,6 @@
 -- `seen::is_seen` meets its contract, in the map and past its end. Assumes nothing.
 use borrow.Author.Needs.{needs}
-use Rattle.sound.proofs.Noting.{none-past}
+use Rattle.sound.proofs.SeenCases.{none-past}
 use Rattle.sound.proofs.seen.is_seen.Statement.{statement}
 use Rattle.sound.proofs.seen.is_seen.Tie as tie
 

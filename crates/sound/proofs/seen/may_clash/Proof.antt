@@ -1,7 +1,7 @@
 -- `seen::may_clash` meets its contract, for each of the task's bits that can be set and for none. Assumes nothing.
 use mathlib.Core.Logic.{⊎-elim}
 use borrow.Author.Needs.{needs}
-use Rattle.sound.proofs.Noting.{clash-ways}
+use Rattle.sound.proofs.SeenCases.{clash-ways}
 use Rattle.sound.proofs.seen.may_clash.Statement.{statement}
 use Rattle.sound.proofs.seen.may_clash.Tie as tie
 

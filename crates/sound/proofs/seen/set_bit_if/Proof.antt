@@ -1,8 +1,8 @@
--- `seen::see_if` meets its contract: not asked for, past the map's end, and set. Assumes nothing.
+-- `seen::set_bit_if` meets its contract: not asked for, past the map's end, and set. Assumes nothing.
 use borrow.Author.Needs.{needs}
-use Rattle.sound.proofs.Noting.{set-ways}
-use Rattle.sound.proofs.seen.see_if.Statement.{statement}
-use Rattle.sound.proofs.seen.see_if.Tie as tie
+use Rattle.sound.proofs.SeenCases.{set-ways}
+use Rattle.sound.proofs.seen.set_bit_if.Statement.{statement}
+use Rattle.sound.proofs.seen.set_bit_if.Tie as tie
 
 returns : tie.Need-returns
 returns c = search set-ways
@@ -31,8 +31,8 @@ same-length c = search needs
 returns-3 : tie.Need-returns-3
 returns-3 c = search set-ways
 
-pub see-if-spec : {M : Type 1} → statement M
-see-if-spec =
+pub set-bit-if-spec : {M : Type 1} → statement M
+set-bit-if-spec =
     tie.close
     (tie.spec
     returns

@@ -17,7 +17,7 @@ use Rattle.task.proofs.Ways.{answered-true, answered-false, told-true, told-fal
 use Rattle.task.proofs.Bits.{dead-zero}
 use Rattle.table.specs.Tables.{taskAt}
 use Rattle.sound.specs.Seen.{nameBit, numberBit, runningBit, acaBit}
-use Rattle.sound.specs.Seen.{isSeen, withSeen, withSeenIf, mayClash, noted, seenBelow}
+use Rattle.sound.specs.Seen.{isSeen, withSeen, withSeenIf, mayClash, withBitsOf, seenBelow}
 use Rattle.table.specs.declared.Table.{Table}
 use Rattle.sound.proofs.Checking.{clashBelow}
 use Rattle.sound.proofs.Seeing.{length-below, clear-below, dead-below}
@@ -84,12 +84,12 @@ module _ (seen : List ℕ) (a : Task) {k : ℕ} {b : Bool} (e : k ≡ nameBit a)
 pub ruleset clash-ways = (not-counted, counted, counted-clear, name-seen, number-seen, running-seen, aca-told)
 
 -- the four bits set one after the other: b, c, d and z are the maps that this leaves
-pub all-noted : (seen : List ℕ) (a : Task) {b c d z : List ℕ} {k l m n : ℕ} {r q : Bool}
+pub all-bits : (seen : List ℕ) (a : Task) {b c d z : List ℕ} {k l m n : ℕ} {r q : Bool}
     → k ≡ nameBit a → b ≡ withSeen seen k → l ≡ numberBit a → c ≡ withSeen b l
     → r ≡ isRunning (a .phase) → m ≡ runningBit a → d ≡ withSeenIf r c m
-    → q ≡ isAca (a .kind) → n ≡ acaBit a → z ≡ withSeenIf q d n → z ≡ noted seen a
-unfolding noted
-all-noted seen a e f g h i j o p s u = rw (u, s, p, o, j, i, h, g, f, e)
+    → q ≡ isAca (a .kind) → n ≡ acaBit a → z ≡ withSeenIf q d n → z ≡ withBitsOf seen a
+unfolding withBitsOf
+all-bits seen a e f g h i j o p s u = rw (u, s, p, o, j, i, h, g, f, e)
 
 -- ---- the turns of the walk: the map l as it stands at record i, and what was answered of the record
 
@@ -98,13 +98,13 @@ module _ (t : Table) (i : ℕ) {g : Bool} (v : g ≡ isLive (t .live) i) where
   dead-clashes h = sym (dead-below t i (answered-false v h))
 
   module _ {l : List ℕ} (e : l ≡ seenBelow t i) where
-    pub dead-noted : g ≡ false → l ≡ seenBelow t (i + 1)
+    pub dead-bits : g ≡ false → l ≡ seenBelow t (i + 1)
     unfolding seenBelow
-    dead-noted h = e ∙ rw (add-one, answered-false v h)
+    dead-bits h = e ∙ rw (add-one, answered-false v h)
 
-    pub live-noted : {m : List ℕ} → g ≡ true → m ≡ noted l (taskAt t i) → m ≡ seenBelow t (i + 1)
+    pub live-bits : {m : List ℕ} → g ≡ true → m ≡ withBitsOf l (taskAt t i) → m ≡ seenBelow t (i + 1)
     unfolding seenBelow
-    live-noted h n = n ∙ rw (add-one, answered-true v h, e)
+    live-bits h n = n ∙ rw (add-one, answered-true v h, e)
 
 module _ (t : Table) (i : ℕ) {l : List ℕ} (e : l ≡ seenBelow t i) where
   pub map-length : 17 ≡ length l
