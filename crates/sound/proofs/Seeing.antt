@@ -200,8 +200,8 @@ two tag = accepted (accepted (setupTable (1 ∷ []) 1 1) 0 0 0 Simple End) 0 tag
 
 pub some-are-clear : SomeAreClear
 unfolding computing two
-some-are-clear = (two 1, refl, refl, refl, refl)
+some-are-clear = record { table = two 1; sound = refl; lower = refl; upper = refl; bits = refl }
 
 pub some-share-a-bit : SomeShareABit
 unfolding computing two
-some-share-a-bit = (two 512, refl, refl, refl, refl)
+some-share-a-bit = record { table = two 512; sound = refl; lower = refl; upper = refl; bits = refl }

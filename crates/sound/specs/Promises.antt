@@ -37,13 +37,21 @@ abbrev pub ClearIsFree : Type 0
 ClearIsFree = (t : Table) (i j : ℕ) (a : Task) → mayClash (seenBelow t i) a ≡ false → j < i → isLive (t .live) j ≡ true
     → alike a (taskAt t j) ≡ false
 
--- there are sound tables whose record 1 has none of its bits set by record 0, and the walk has nothing to do
-abbrev pub SomeAreClear : Type 0
-SomeAreClear = (t : Table) × (soundOf t ≡ true) × (isLive (t .live) 0 ≡ true) × (isLive (t .live) 1 ≡ true) × (mayClash (seenBelow t 1) (taskAt t 1) ≡ false)
+-- a sound table with records 0 and 1 live, where a bit of record 1 is set by record 0, or none is
+pub record SoundPair (set : Bool) : Type 0 where
+  pub table : Table
+  pub sound : soundOf table ≡ true
+  pub lower : isLive (table .live) 0 ≡ true
+  pub upper : isLive (table .live) 1 ≡ true
+  pub bits : mayClash (seenBelow table 1) (taskAt table 1) ≡ set
 
--- and there are sound tables where one is set: the bits alone do not say that two clash
+-- there are tables where none is, and the walk has nothing to do
+abbrev pub SomeAreClear : Type 0
+SomeAreClear = SoundPair false
+
+-- and tables where one is: the bits alone do not say that two clash
 abbrev pub SomeShareABit : Type 0
-SomeShareABit = (t : Table) × (soundOf t ≡ true) × (isLive (t .live) 0 ≡ true) × (isLive (t .live) 1 ≡ true) × (mayClash (seenBelow t 1) (taskAt t 1) ≡ true)
+SomeShareABit = SoundPair true
 
 -- ---- sound, and of the machine's shape
 

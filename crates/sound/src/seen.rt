@@ -64,10 +64,10 @@ fn is_seen(seen: &[u64], k: usize) -> bool
 fn set_bit_if(asked: bool, seen: &mut [u64], k: usize)
     ensures { λ _. ⌜ now (seen .exit) ≡ withSeenIf asked (now (seen .entry)) k ⌝ }
 {
-    let w = k / WORD;
     if !asked {
         return;
     }
+    let w = k / WORD;
     if w >= seen.len() {
         return;
     }
