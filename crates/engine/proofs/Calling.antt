@@ -1,19 +1,21 @@
 -- The calls: a lemma for each way out. Assumes nothing.
 --     gates      for `search`, a call that makes one test after another, under `unfolding` of its definition: what it refuses, and what comes after the last test
---     heard-all, goes-next, judged      what comes after the last test of `heard`, `choose` and `judge`; picks, chosen: what is picked there
---     plan-ways, go-ways, may-ways, reset-ways, setup-ways      for `search`, the ways out of the functions so named
+--     heard-all      what comes after the last test of `heard`;        chosen      what a start picks
+--     plan-ways, step-ways, go-ways, may-ways, reset-ways, setup-ways      for `search`, the ways out of the functions so named
 --     unread, read-by, carries-out, carries      a message: the plan for what was heard, the table after it, and the outcome
---     starts, finishes      the outcome by the verdict
+--     starts, finishes      the outcome, by what was asked of the table, the verdict and the step
 --     answers      the contract of a call with a reply buffer
 use Prim.Native.Nat.{ℕ, _<_, _≤_}
-use mathlib.Core.Path.{_≡_, refl, sym, _∙_}
+use mathlib.Core.Path.{_≡_, refl, sym, ap, _∙_}
 use mathlib.Core.Bool.{Bool, true, false, cond, not, _&&_, _||_}
 use mathlib.Core.List.{List, [], _∷_}
 use mathlib.Core.Option.{none}
 use lib.Dec.{eqb, leb, ltb}
+use lib.ListN.{length}
 use denote.Enum.Declared.{tagOf}
 use types.Run.{OneOf, miss}
-use borrow.Author.Tests.{lt-ltb, le-ltb, le-leb, lt-leb, eq-eqb, ne-eqb}
+use Rattle.wire.proofs.Table.{cond-ind}
+use borrow.Author.Tests.{not-false, lt-ltb, le-ltb, le-leb, lt-leb, eq-eqb, ne-eqb}
 use Rattle.wire.specs.Codes
 use Rattle.wire.specs.Messages.{readOf}
 use Rattle.wire.specs.declared.codes.Refusal.{Refusal}
@@ -23,14 +25,25 @@ use Rattle.wire.specs.declared.message.Message.{Message}
 use Rattle.reply.specs.Calls.{leftOf}
 use Rattle.reply.specs.declared.Reply.{Reply}
 use Rattle.reply.specs.declared.Reply.the-variants as reply
-use Rattle.task.specs.Tasks.{offsetOf}
-use Rattle.task.specs.Selections.{waitingOn, acaWaitingOn, runningAs}
+use Rattle.task.specs.Selections.{everyTask, runningOn, waitingOn, acaWaitingOn, runningAs}
+use Rattle.task.specs.declared.Kind.{Kind}
+use Rattle.task.specs.declared.Sequel.{Sequel}
+use Rattle.task.specs.declared.select.Place.the-variants.{Anywhere}
 use Rattle.task.specs.declared.scan.Pick.{Pick}
 use Rattle.task.specs.declared.select.Selection.{Selection}
 use Rattle.task.proofs.Ways.{answered-true, answered-false}
-use Rattle.table.specs.Tables.{pathOf, pathAt, unitAt, hasAca, pickOf, othersOn, started, finished, resetOf}
+use Rattle.task.proofs.Next.{scan-stands}
+use Rattle.table.specs.Tables.{pathOf, pathAt, unitAt, taskAt, isAttached, hasAca, pickOf, othersOn, resetAttentionIn, acaClearedIn, withPaths, withUnits, finished, resetOf}
+use Rattle.table.specs.Steps.{stepped, finishStep, finishUnits, holdersOf}
+use Rattle.table.specs.declared.changes.Holders.{Holders}
+use Rattle.table.specs.declared.steps.Alteration.the-variants.{Run, Restart}
+use Rattle.table.specs.declared.steps.Step.{Step}
+use Rattle.table.specs.declared.steps.Step.the-variants as step
+use Rattle.table.proofs.Stepping.{finish-is-step, finish-of-none}
 use Rattle.table.specs.Setup.{badList, setupTable}
 use Rattle.sound.specs.Sound.{soundOf}
+use Rattle.sound.proofs.Exact.{check-is-exact}
+use Rattle.sound.proofs.Keeps.{reset-ends}
 use Rattle.table.specs.declared.Aca.{Aca}
 use Rattle.table.specs.declared.Path as path
 use Rattle.table.specs.declared.Unit as unit
@@ -42,12 +55,14 @@ use Rattle.plan.specs.declared.Request.{Request}
 use Rattle.plan.specs.declared.Asked.{Asked}
 use Rattle.plan.specs.declared.Asked.the-variants.{By, Unread}
 use Rattle.plan.specs.declared.RecordChange.{RecordChange}
+use Rattle.plan.specs.declared.RecordChange.the-variants as records
 use Rattle.plan.specs.declared.Plan.{Plan}
 use Rattle.plan.proofs.Answer.{the-type}
 use Rattle.plan.proofs.Promises.{others-unasked}
 use Rattle.plan.specs.declared.Answer.{Answer}
 use Rattle.plan.specs.declared.Answer.the-variants as answer
-use Rattle.engine.specs.Calls.{out, refused, heardOf, senderOf, planAt, planFor, withRecords, carriedOut, replyPath, carried, answeredTo, messageOf, verdict, settled, mayGo, choiceOn, goes, startVerdict, startOf, sentSense, runningTask, failed, finishVerdict, finishOf, totalResetOf, setupOf, replied, Answers, isAccepted}
+use Rattle.engine.specs.Calls.{out, refused, heardOf, senderOf, planAt, planFor, withRecords, carriedOut, replyPath, carried, answeredTo, messageOf, verdict, settled, rejected, mayGo, choiceOn, startVerdict, startOf, mayFinish, sentSense, failed, finishVerdict, finishOf, totalResetOf, setupOf, replied, Answers, isAccepted}
+use Rattle.engine.specs.Steps.{stepOf, chosenBy, judgedBy}
 use Rattle.engine.specs.declared.Outcome.{Outcome}
 use Rattle.engine.specs.declared.calls.Verdict.{Verdict}
 
@@ -109,14 +124,38 @@ module _ (t : Table) (m : List ℕ) {a : Asked} {pl : Plan} where
   unfolding planHeard planFor planAt
   read-by {tag = tag} {w = w} e p n u b s h = h ∙ rw (e, s, others-alike t m _ tag (t .next) _ _ _ w b, n, u, p)
 
+-- the step that a plan asks for does what the plan says
+steps-so : (t : Table) (d : RecordChange) → stepped t (stepOf d) ≡ withRecords t d
+unfolding stepped withRecords
+steps-so t records.Nothing = refl
+steps-so t (records.Accept path tag lun kind sequel) = refl
+steps-so t (records.End s) = refl
+steps-so t (records.Restart place offset) = refl
+
+-- the ways of `step_of`
+module _ {d : RecordChange} where
+  pub stays-so : d ≡ records.Nothing → step.Stay ≡ stepOf d
+  stays-so e = rw e
+
+  pub accepts-so : {path tag lun : ℕ} {kind : Kind} {sequel : Sequel} → d ≡ records.Accept path tag lun kind sequel → step.Accept path tag lun kind sequel ≡ stepOf d
+  accepts-so e = rw e
+
+  pub ends-so : {s : Selection} → d ≡ records.End s → step.End s ≡ stepOf d
+  ends-so e = rw e
+
+  pub restarts-so : {place offset : ℕ} → d ≡ records.Restart place offset → step.Alter place (Restart offset) ≡ stepOf d
+  restarts-so e = rw e
+
+pub ruleset step-ways = (stays-so, accepts-so, ends-so, restarts-so)
+
 -- the plan carried out: paths and units, then the records
 module _ (t : Table) (pl : Plan) {paths : List path.Path} {units : List unit.Unit} (e : paths ≡ pathsAfter (t .paths) (t .count) (pl .change)) (h : units ≡ unitsAfter (t .units) (pl .change)) where
   abbrev changed : Table
   changed = record { live = t .live; next = t .next; count = t .count; attached = t .attached; paths = paths; units = units; tasks = t .tasks }
 
-  pub carries-out : {d : RecordChange} {u : Table} → pl .records ≡ d → u ≡ withRecords changed d → u ≡ carriedOut t pl
+  pub carries-out : {q : Step} {u : Table} → q ≡ stepOf (pl .records) → u ≡ stepped changed q → u ≡ carriedOut t pl
   unfolding carriedOut
-  carries-out k a = a ∙ rw (k, e, h)
+  carries-out k a = a ∙ rw (k, e, h) (steps-so _ (pl .records))
 
 carried-heard : (t : Table) (m : List ℕ) (a : Asked) → carried t (senderOf a) (planHeard t m a) ≡ answeredTo t m a
 unfolding planHeard answeredTo carriedOut withRecords
@@ -184,12 +223,10 @@ pub chosen : (t : Table) (lun : ℕ) {u : unit.Unit} {s : Selection} {p : Pick} 
 unfolding choiceOn
 chosen t lun e h k = k ∙ rw (h, e)
 
-pub goes-next : {p q : Pick} → p ≡ q → verdict (answer.Started (offsetOf (p .task)) (p .task .arrival)) (p .at) 0 ≡ goes q
-goes-next e = rw e
-
-pub starts : (t : Table) (lun : ℕ) {v : Verdict} {u : Table} → v ≡ startVerdict t lun → u ≡ started t (v .place) → settled v u ≡ startOf t lun
-unfolding startOf
-starts t lun e h = rw (h, e)
+pub starts : (t : Table) (lun : ℕ) {b f : Bool} {q : Selection} {h : Holders} {p : Pick} {v : Verdict} {u : Table} → b ≡ soundOf t → q ≡ runningOn lun → h ≡ holdersOf t q → p ≡ choiceOn t lun → f ≡ isAttached t lun
+    → v ≡ chosenBy b f (h .found) p → u ≡ stepped t (step.Alter (v .place) Run) → settled v u ≡ startOf t lun
+unfolding startOf startVerdict chosenBy holdersOf stepped
+starts t lun s k h c d e g = rw (g, e, s, h, k, c, d)
 
 -- ---- finish
 
@@ -205,17 +242,48 @@ this-status y h = rw (eq-eqb _ _ h)
 pub next-status : (y : Bool) {r : Bool} {k n : ℕ} → (k ≡ n → ⊥) → r ≡ y → r ≡ (eqb k n || y)
 next-status y h e = rw (ne-eqb _ _ h) e
 
+pub sense-so : (x : StatusByte) (s : Sense) (tag at id : ℕ) {k : Sense} → k ≡ sentSense x s → verdict (answer.Reply (reply.Status tag x k)) at id ≡ verdict (answer.Reply (reply.Status tag x (sentSense x s))) at id
+sense-so x s tag at id e = rw e
+
 pub ruleset may-ways = (bad-key, good-key, this-status, next-status)
 
-pub judged : (t : Table) (arrival : ℕ) (x : StatusByte) (s : Sense) {p : Pick} {from : path.Path} {k : Sense} → p ≡ pickOf t (runningAs arrival) → from ≡ pathAt t (p .task .path) → k ≡ sentSense x s
-    → verdict (answer.Reply (reply.Status (p .task .tag) x k)) (p .at) (from .id)
-    ≡ verdict (answer.Reply (reply.Status (runningTask t arrival .tag) x (sentSense x s))) (pickOf t (runningAs arrival) .at) (pathAt t (runningTask t arrival .path) .id)
-judged t arrival x s e f k = rw (k, f, e)
+-- the record that a finish is about holds the running task of the arrival number, or is none
+module _ (t : Table) (arrival : ℕ) where
+  stands : pickOf t (runningAs arrival) .found ≡ true → pickOf t (runningAs arrival) .task ≡ taskAt t (pickOf t (runningAs arrival) .at)
+  unfolding pickOf
+  stands f = scan-stands (t .live) (runningAs arrival) (t .tasks) f .task
 
-pub finishes : (t : Table) (arrival : ℕ) (x : StatusByte) (s : Sense) (transferred n : ℕ) {v : Verdict} {u : Table} → v ≡ finishVerdict t arrival x s n
-    → u ≡ finished t (v .place) (failed x) transferred → settled v u ≡ finishOf t arrival x s transferred n
-unfolding finishOf
-finishes t arrival x s transferred n e h = rw (h, e)
+  module _ (x : StatusByte) (s : Sense) (transferred room : ℕ) where
+    abbrev found : Pick
+    found = pickOf t (runningAs arrival)
+
+    abbrev judgement : Verdict
+    judgement = finishVerdict t arrival x s room
+
+    abbrev Left : Verdict → Type 0
+    Left v = stepped (withUnits t (finishUnits (t .units) (t .live) (v .place) (found .task) (failed x))) (finishStep (t .live) (v .place) (found .task) transferred) ≡ finished t (v .place) (failed x) transferred
+
+    none-left : (r : Refusal) → Left (rejected r)
+    none-left r = finish-of-none t (failed x) transferred (found .task)
+
+    left : Left judgement
+    unfolding finishVerdict
+    left =
+        cond-ind Left (not (soundOf t)) (λ _. none-left Codes.notSound) (λ _.
+        cond-ind Left (ltb room Codes.replyRoom) (λ _. none-left Codes.smallBuffer) (λ _.
+        cond-ind Left (not (mayFinish x s)) (λ _. none-left Codes.badStatus) (λ _.
+        cond-ind Left (not (found .found)) (λ _. none-left Codes.notRunning) (λ f. rw (stands (not-false _ f)) (finish-is-step t (failed x) transferred (found .at))))))
+
+    pub finishes : {b : Bool} {q : Selection} {p : Pick} {from : path.Path} {v : Verdict} {l : List unit.Unit} {k : Step} {u : Table} → b ≡ soundOf t → q ≡ runningAs arrival → p ≡ pickOf t q
+        → from ≡ pathAt t (p .task .path) → v ≡ judgedBy b room x s p (from .id) → l ≡ finishUnits (t .units) (t .live) (v .place) (p .task) (failed x)
+        → k ≡ finishStep (t .live) (v .place) (p .task) transferred → u ≡ stepped (withUnits t l) k → settled v u ≡ finishOf t arrival x s transferred room
+    unfolding finishOf judgedBy finishVerdict
+    finishes h y g d e c w z =
+        let j : _ ≡ judgement = e ∙ rw (h, d, g, y) judged-so in
+        rw (z, w, c, j, g, y) (ap (settled judgement) left)
+      where
+        judged-so : judgedBy (soundOf t) room x s found (pathAt t (found .task .path) .id) ≡ judgement
+        judged-so = refl
 
 -- ---- total reset and setup
 
@@ -224,9 +292,10 @@ module _ (t : Table) {b : Bool} (e : b ≡ soundOf t) where
   unfolding totalResetOf
   reset-refused h = rw (← e, h)
 
-  pub resets : {u : Table} → b ≡ true → u ≡ resetOf t → out u answer.Reset 0 ≡ totalResetOf t
-  unfolding totalResetOf
-  resets h k = rw (k, ← e, h)
+  pub resets : {u : Table} {l : List path.Path} {us : List unit.Unit} → b ≡ true → l ≡ resetAttentionIn (t .paths) (t .count) true → us ≡ acaClearedIn (t .units) Anywhere
+      → u ≡ stepped (withUnits (withPaths t l) us) (step.End everyTask) → length (t .tasks) ≡ 64 → out u answer.Reset 0 ≡ totalResetOf t
+  unfolding totalResetOf stepped
+  resets h p c k n = rw (k, p, c, reset-ends t n (check-is-exact t .0 (sym e ∙ h)), ← e, h)
 
 pub ruleset reset-ways = (reset-refused, resets)
 

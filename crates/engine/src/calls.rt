@@ -2,7 +2,8 @@
 ghost use mathlib.Core.Path.{_≡_};
 ghost use mathlib.Core.Bool.{cond};
 ghost use lib.Dec.{ltb};
-ghost use Rattle.engine.specs.Calls.{replyPath, heardOf, senderOf, mayGo, rejected, startVerdict, mayFinish, sentSense, finishVerdict, replied};
+ghost use Rattle.engine.specs.Calls.{replyPath, heardOf, senderOf, mayGo, rejected, mayFinish, sentSense, replied};
+ghost use Rattle.engine.specs.Steps.{stepOf, chosenBy, judgedBy};
 ghost use Rattle.engine.specs.Calls.{SetupContract, MessageContract, StartContract, FinishContract, TotalResetContract, CommandBlockContract};
 ghost use Rattle.wire.specs.Codes;
 ghost use Rattle.wire.specs.Codes.{statusByte, sense};
@@ -20,7 +21,13 @@ use sound::is_sound;
 use table::Aca;
 use table::PATHS;
 use table::Table;
+use table::steps::Alteration;
+use table::steps::Step;
+use table::steps::finish_step;
+use table::steps::finish_units;
 use task::RECORDS;
+use task::scan::Pick;
+use task::select::Place;
 use task::select::Selection;
 use wire::codes::REPLY_ROOM;
 use wire::codes::Refusal;
@@ -86,6 +93,33 @@ fn plan_for(s: Lookup, next: u64, p: u8, tag: u16, m: &[u8], w: Request) -> Plan
     plan::find_plan(s, next, p, tag, m, w)
 }
 
+// The step of the records that a plan asks for.
+fn step_of(r: RecordChange) -> Step
+    ensures { λ s. ⌜ s ≡ stepOf r ⌝ }
+{
+    match r {
+        RecordChange::Nothing => Step::Stay,
+        RecordChange::Accept {
+            path,
+            tag,
+            lun,
+            kind,
+            sequel,
+        } => Step::Accept {
+            path,
+            tag,
+            unit: lun,
+            kind,
+            sequel,
+        },
+        RecordChange::End(s) => Step::End(s),
+        RecordChange::Restart { place, offset } => Step::Alter {
+            place,
+            by: Alteration::Restart(offset),
+        },
+    }
+}
+
 // A message received: the next table, the answer, and the reply in the buffer. The plan is found first, then carried
 // out on the one table: paths and units in place, then the records.
 pub fn message(mut t: Table, m: &[u8], reply: &mut [u8]) -> Outcome
@@ -116,18 +150,7 @@ pub fn message(mut t: Table, m: &[u8], reply: &mut [u8]) -> Outcome
     let units = t.units;
     let changed_units = plan::change_units(units, change);
     t.units = changed_units;
-    match records {
-        RecordChange::Nothing => {}
-        RecordChange::Accept {
-            path,
-            tag,
-            lun,
-            kind,
-            sequel,
-        } => t = t.accept(path, tag, lun, kind, sequel),
-        RecordChange::End(s) => t = t.end(s),
-        RecordChange::Restart { place, offset } => t = t.restart(place, offset),
-    }
+    t = t.step(step_of(records));
     // The reply goes by a copy of the answer, so that the outcome is made where it is handed back.
     let said = plan.answer;
     reply_to(said, reply);
@@ -166,23 +189,20 @@ fn reject(n: Refusal) -> Verdict
     }
 }
 
-// The task that goes next on the unit, or why none does.
-fn choose(t: Table, unit: u8) -> Verdict
-    ensures { λ r. ⌜ r ≡ startVerdict t unit ⌝ }
+// What a start comes to, by what was asked of the table: whether it passed the check, the unit is attached and busy,
+// and the task that may go next there.
+fn choose(checked: bool, attached: bool, busy: bool, p: Pick) -> Verdict
+    ensures { λ r. ⌜ r ≡ chosenBy checked attached busy p ⌝ }
 {
-    if !is_sound(t) {
+    if !checked {
         return reject(Refusal::NOT_SOUND);
     }
-    if !t.is_attached(unit) {
+    if !attached {
         return reject(Refusal::NOT_ATTACHED);
     }
-    let running = t.pick(Selection::running_on(unit));
-    if running.found {
+    if busy {
         return reject(Refusal::UNIT_BUSY);
     }
-    let u = t.unit_at(unit);
-    let aca = u.aca;
-    let p = t.pick(may_go(aca, unit));
     if !p.found {
         return reject(Refusal::NOTHING_TO_START);
     }
@@ -201,9 +221,17 @@ fn choose(t: Table, unit: u8) -> Verdict
 pub fn start(mut t: Table, unit: u8) -> Outcome
     ensures { λ o. ⌜ StartContract t unit o ⌝ }
 {
-    let v = choose(t, unit);
+    let sound = is_sound(t);
+    let running = t.holders(Selection::running_on(unit));
+    let u = t.unit_at(unit);
+    let aca = u.aca;
+    let p = t.pick(may_go(aca, unit));
+    let v = choose(sound, t.is_attached(unit), running.found, p);
     let answer = v.answer;
-    t = t.start(v.place);
+    t = t.step(Step::Alter {
+        place: v.place,
+        by: Alteration::Run,
+    });
     Outcome {
         table: t,
         answer,
@@ -241,12 +269,12 @@ fn sent_sense(status: StatusByte, sense: Sense) -> Sense
     Sense::NONE
 }
 
-// The task that the device has finished, with the STATUS to send, or why there is none; for a reply buffer of n
-// bytes.
-fn judge(t: Table, arrival: u64, status: StatusByte, sense: Sense, n: usize) -> Verdict
-    ensures { λ r. ⌜ r ≡ finishVerdict t arrival status sense n ⌝ }
+// What a finish comes to, by what was asked of the table: whether it passed the check, the running task of the arrival
+// number, and the id of its path; for a reply buffer of n bytes.
+fn judge(checked: bool, n: usize, status: StatusByte, sense: Sense, p: Pick, id: u32) -> Verdict
+    ensures { λ r. ⌜ r ≡ judgedBy checked n status sense p id ⌝ }
 {
-    if !is_sound(t) {
+    if !checked {
         return reject(Refusal::NOT_SOUND);
     }
     if n < REPLY_ROOM {
@@ -255,12 +283,10 @@ fn judge(t: Table, arrival: u64, status: StatusByte, sense: Sense, n: usize) -> 
     if !may_finish(status, sense) {
         return reject(Refusal::BAD_STATUS);
     }
-    let p = t.pick(Selection::running_as(arrival));
     if !p.found {
         return reject(Refusal::NOT_RUNNING);
     }
     let a = p.task;
-    let sender = t.path_at(a.path as usize);
     Verdict {
         answer: Answer::Reply(Reply::Status {
             tag: a.tag,
@@ -268,7 +294,7 @@ fn judge(t: Table, arrival: u64, status: StatusByte, sense: Sense, n: usize) -> 
             sense: sent_sense(status, sense),
         }),
         place: p.at,
-        to: sender.id,
+        to: id,
     }
 }
 
@@ -291,10 +317,17 @@ pub fn finish(
         code,
         qualifier,
     };
-    let v = judge(t, arrival, StatusByte(status), s, reply.len());
+    let sound = is_sound(t);
+    let p = t.pick(Selection::running_as(arrival));
+    let a = p.task;
+    let sender = t.path_at(a.path as usize);
+    let v = judge(sound, reply.len(), StatusByte(status), s, p, sender.id);
     let answer = v.answer;
     let failed = status == StatusByte::CHECK_CONDITION.0;
-    t = t.finish(v.place, failed, transferred);
+    let units = t.units;
+    let claimed = finish_units(units, t.live, v.place, a, failed);
+    t.units = claimed;
+    t = t.step(finish_step(t.live, v.place, a, transferred));
     let said = v.answer;
     reply_to(said, reply);
     Outcome {
@@ -304,13 +337,19 @@ pub fn finish(
     }
 }
 
-// Everything is reset; arrival numbers go on.
+// Everything is reset, by the pass that ends tasks; arrival numbers go on.
 pub fn total_reset(mut t: Table) -> Outcome
     ensures { λ o. ⌜ TotalResetContract t o ⌝ }
 {
     let mut answer = Answer::Refused(Refusal::NOT_SOUND);
     if is_sound(t) {
-        t = t.reset();
+        let paths = t.paths;
+        let reset = table::paths::give_reset_attention(paths, t.count, true);
+        t.paths = reset;
+        let units = t.units;
+        let clear = table::units::clear_aca(units, Place::Anywhere);
+        t.units = clear;
+        t = t.step(Step::End(Selection::ALL));
         answer = Answer::Reset;
     }
     Outcome {

@@ -16,6 +16,8 @@ use Rattle.wire.specs.declared.message.Flags.{Flags}
 use Rattle.task.specs.Selections.{named, acaOn}
 use Rattle.task.specs.declared.select.Selection.{Selection}
 use Rattle.table.specs.Tables.{pathAt, unitAt, isAttached, hasAca, ownedBy, hasRoom, othersOn, pickOf}
+use Rattle.table.specs.Steps.{holdersOf}
+use Rattle.table.specs.declared.changes.Holders.{Holders}
 use Rattle.table.specs.declared.Path as path
 use Rattle.table.specs.declared.Unit as unit
 use Rattle.task.specs.declared.scan.Pick.{Pick}
@@ -34,6 +36,9 @@ use Rattle.rules.specs.declared.manage.Order.{Order}
 pub picks-so : (t : Table) (q : Selection) {s : Selection} {p : Pick} → s ≡ q → p ≡ pickOf t s → p ≡ pickOf t q
 picks-so t q e h = rw e at h
 
+pub holds-so : (t : Table) (q : Selection) {s : Selection} {h : Holders} → s ≡ q → h ≡ holdersOf t s → h ≡ holdersOf t q
+holds-so t q e h = rw e at h
+
 module _ (t : Table) (p lun : ℕ) {clears : Bool} {n : ℕ} where
   pub others-asked : {k : ℕ} → n ≡ k → k ≡ othersOn t lun p → clears ≡ true → n ≡ cond clears (othersOn t lun p) 0
   others-asked e h a = e ∙ rw (h, a)
@@ -41,9 +46,9 @@ module _ (t : Table) (p lun : ℕ) {clears : Bool} {n : ℕ} where
   pub nobody-asked : n ≡ 0 → clears ≡ false → n ≡ cond clears (othersOn t lun p) 0
   nobody-asked e a = e ∙ rw a
 
-module _ (t : Table) (p tag lun : ℕ) {s : path.Path} {u : unit.Unit} {own rival : Pick} {room attached aca owned : Bool} {n others : ℕ} where
+module _ (t : Table) (p tag lun : ℕ) {s : path.Path} {u : unit.Unit} {own : Pick} {rival : Holders} {room attached aca owned : Bool} {n others : ℕ} where
   pub looked-up :
-      s ≡ pathAt t p → u ≡ unitAt t lun → own ≡ pickOf t (named p tag) → rival ≡ pickOf t (acaOn lun) → room ≡ hasRoom t → attached ≡ isAttached t lun → aca ≡ hasAca (u .aca)
+      s ≡ pathAt t p → u ≡ unitAt t lun → own ≡ pickOf t (named p tag) → rival ≡ holdersOf t (acaOn lun) → room ≡ hasRoom t → attached ≡ isAttached t lun → aca ≡ hasAca (u .aca)
       → owned ≡ ownedBy (u .aca) p → others ≡ n
       → record {
         facts = record {
@@ -60,10 +65,10 @@ module _ (t : Table) (p tag lun : ℕ) {s : path.Path} {u : unit.Unit} {own riva
         others = others;
       }
       ≡ lookupOf t p tag lun n
-  unfolding factsOf lookupOf
+  unfolding factsOf lookupOf holdersOf
   looked-up e h a b c d f g k = rw (a, b, c, d, f, g, k, e, h)
 
-pub ruleset look-up-cases = (looked-up, picks-so, others-asked, nobody-asked)
+pub ruleset look-up-cases = (looked-up, picks-so, holds-so, others-asked, nobody-asked)
 
 -- ---- the unit's ACA keeps a command out
 

@@ -33,7 +33,7 @@ pub struct Lookup {
 }
 
 // What is asked of the table for the path at p, about its task with a tag and about a unit. Who else has a task on
-// the unit is a walk over all records for each path: it is asked with `clears` alone.
+// the unit is one more pass over the records: it is asked with `clears` alone.
 pub fn look_up(t: Table, p: u8, tag: u16, lun: u8, clears: bool) -> Lookup
     ensures { λ r. ⌜ r ≡ lookupOf t p tag lun (cond clears (othersOn t lun p) 0) ⌝ }
 {
@@ -42,7 +42,7 @@ pub fn look_up(t: Table, p: u8, tag: u16, lun: u8, clears: bool) -> Lookup
     let unit = t.unit_at(lun);
     let aca = unit.aca;
     let own = t.pick(Selection::named(p, tag));
-    let aca_task = t.pick(Selection::aca_on(lun));
+    let aca_held = t.holders(Selection::aca_on(lun));
     let others = if clears { t.others_on(lun, p) } else { 0 };
     let facts = Facts {
         marked: sender.full,
@@ -52,7 +52,7 @@ pub fn look_up(t: Table, p: u8, tag: u16, lun: u8, clears: bool) -> Lookup
         attached: t.is_attached(lun),
         aca: table::units::has_aca(aca),
         owned: table::units::owned_by(aca, p),
-        busy: aca_task.found,
+        busy: aca_held.found,
     };
     Lookup { facts, own, others }
 }

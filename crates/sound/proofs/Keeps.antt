@@ -1,20 +1,21 @@
--- Setup gives a good table, each change keeps a table good, and total reset gives what setup gives. Assumes nothing.
+-- Setup gives a good table, each change keeps a table good, and total reset gives what setup gives and is the pass
+-- that ends every task. Assumes nothing.
 use Prim.Native.Nat.{ℕ, zero, suc, _+_, _-_, _^_, _≤_, _<_}
 use mathlib.Core.Path.{_≡_, refl, sym, ap, _∙_}
-use mathlib.Core.Bool.{Bool, true, false, cond, _&&_}
+use mathlib.Core.Bool.{Bool, true, false, cond, not, _&&_, and-false}
 use mathlib.Core.List.{List, [], _∷_}
 use mathlib.Core.Option.{none, some}
 use mathlib.Core.Logic.{_⊎_, inl, inr, ⊎-elim}
 use native.Mathlib.Decide.{ℕ-discrete}
 use native.Mathlib.Omega.{arith}
-use lib.Dec.{eqb, ltb}
+use lib.Dec.{eqb, ltb, lit<}
 use lib.ListN.{length, getD, set, replicate, length-append, length-set, length-replicate, List·getD-append}
 use lib.Seq.{getD-set-same, getD-set-other, getD-append-add}
 use borrow.Author.Tests.{lt-ltb, le-ltb, ltb-true, ltb-false, leb-true, eq-eqb, ne-eqb, eqb-false}
-use Rattle.task.specs.Index.{someBelow, mapAt}
+use Rattle.task.specs.Index.{someBelow, mapOf, mapAt}
 use Rattle.task.specs.Tasks.{noTask, isAca, isRunning, hasConfirm, inPhase, awaits}
 use Rattle.task.specs.Map.{isLive, lowestFree, withBit}
-use Rattle.task.specs.Selections.{picks, named, acaOn, runningOn, runningAs}
+use Rattle.task.specs.Selections.{picks, picksLive, everyTask, named, acaOn, runningOn, runningAs}
 use Rattle.task.specs.declared.Kind.{Kind}
 use Rattle.task.specs.declared.Phase.{Phase}
 use Rattle.task.specs.declared.Sequel.{Sequel}
@@ -23,7 +24,7 @@ use Rattle.task.specs.declared.select.Place.the-variants.{Anywhere, On}
 use Rattle.wire.proofs.Table.{cond-ind, neither}
 use Rattle.task.proofs.Ways.{either-way, never, both}
 use Rattle.task.proofs.Places.{lt-or-le, some-none, none-at}
-use Rattle.task.proofs.Bits.{mapOf-lt, live-mapOf}
+use Rattle.task.proofs.Bits.{dead-zero as live-nowhere, mapOf-lt, live-mapOf, is-mapOf}
 use Rattle.task.proofs.Maps.{with-lt}
 use Rattle.task.proofs.Lists.{length-mapAt, getD-mapAt, is-mapAt}
 use Rattle.task.proofs.Selecting.{picks-named, picks-aca-on, picks-running-on}
@@ -31,7 +32,7 @@ use Rattle.table.specs.Tables.{noPath, noUnit, pathAt, unitAt, taskAt, isAttach
 use Rattle.table.specs.Setup.{seenBefore, badList, freshPath, freshPaths, pathsOf, freshTable, setupTable}
 use Rattle.sound.specs.Sound.{Sound}
 use Rattle.table.specs.View.{at}
-use Rattle.sound.specs.Promises.{Good, FreshIsGood, MayCome, AcceptKeeps, EndKeeps, SameTask, AlterKeeps, StartedKeeps, RestartedKeeps, FinishedKeeps, ClaimKeeps, ClearKeeps, MarkKeeps, AttentionGoneKeeps, ResetAttentionKeeps, ClearedAttentionKeeps, ResetOfKeeps, ResetIsSetup}
+use Rattle.sound.specs.Promises.{Good, FreshIsGood, MayCome, AcceptKeeps, EndKeeps, SameTask, AlterKeeps, StartedKeeps, RestartedKeeps, FinishedKeeps, ClaimKeeps, ClearKeeps, MarkKeeps, AttentionGoneKeeps, ResetAttentionKeeps, ClearedAttentionKeeps, ResetOfKeeps, ResetIsSetup, ResetIsEnding}
 use Rattle.table.specs.declared.Aca.{Aca}
 use Rattle.table.specs.declared.Aca.the-variants.{Clear, Owned}
 use Rattle.table.specs.declared.Path as path
@@ -487,3 +488,26 @@ reset-is-setup t ids g e h = rw (ids-good t ids (g .sound) e h) (λ i. record {
         (λ l. listed-at ids p (omega arith) ∙ ap freshPath (sym (h p l)) ∙ rw (lt-ltb p (t .count) l))
         (λ l. unused-at ids p (omega arith) ∙ rw (le-ltb p (t .count) l) (sym (g .sound .unused-zero p l (omega (arith, g .shaped .paths)))))
         (lt-or-le p (t .count))))
+
+-- every live record is wiped, and a dead one is zero already
+module _ (t : Table) (n : length (t .tasks) ≡ 64) (s : Sound t) where
+  none-left : mapOf 64 (λ i. isLive (t .live) i && not (picks everyTask (taskAt t i))) ≡ 0
+  unfolding picks
+  none-left = sym (is-mapOf 64 0 (λ i. isLive (t .live) i && false) (lit< tt) (λ i _. live-nowhere i ∙ sym (and-false (isLive (t .live) i))))
+
+  abbrev wiped : ℕ → Task → Task
+  wiped i a = cond (picksLive (t .live) everyTask i a) noTask a
+
+  all-wiped : mapAt wiped 0 (t .tasks) ≡ replicate 64 noTask
+  unfolding picks
+  all-wiped = sym (is-mapAt wiped (t .tasks) (replicate 64 noTask) noTask (length-replicate 64 noTask ∙ sym n) (λ i b. getD-same 64 i noTask ∙ each i (omega (arith, n))))
+    where
+      each : (i : ℕ) → i < 64 → noTask ≡ wiped i (taskAt t i)
+      each i l = elim (either-way (isLive (t .live) i)) [ inl e ↦ rw e | inr e ↦ rw e (sym (s .dead-zero i l (at-dead t i e))) ]
+
+  pub reset-ends : endedBy (withUnits (withPaths t (resetAttentionIn (t .paths) (t .count) true)) (acaClearedIn (t .units) Anywhere)) everyTask ≡ resetOf t
+  unfolding endedBy acaClearedIn resetOf
+  reset-ends = rw (none-left, all-wiped)
+
+pub reset-is-ending : ResetIsEnding
+reset-is-ending t g = reset-ends t (g .shaped .tasks) (g .sound)

@@ -7,7 +7,7 @@ use mathlib.Core.List.{List}
 use lib.ListN.{length, getD}
 use Rattle.task.specs.Tasks.{isAca, isRunning}
 use Rattle.task.specs.Map.{isLive}
-use Rattle.task.specs.Selections.{named, acaOn, runningOn}
+use Rattle.task.specs.Selections.{everyTask, named, acaOn, runningOn}
 use Rattle.task.specs.declared.Kind.{Kind}
 use Rattle.task.specs.declared.Sequel.{Sequel}
 use Rattle.task.specs.declared.Task.{Task}
@@ -129,3 +129,7 @@ ResetOfKeeps = (t : Table) → Good t → Good (resetOf t)
 abbrev pub ResetIsSetup : Type 0
 ResetIsSetup = (t : Table) (ids : List ℕ) → Good t → length ids ≡ t .count → ((p : ℕ) → p < t .count → pathAt t p .id ≡ getD ids p 0)
     → resetOf t ≡ setupTable ids (t .attached) (t .next)
+
+-- and it is the pass that ends every task, with the marks and ACAs gone and reset attention on every listed path
+abbrev pub ResetIsEnding : Type 0
+ResetIsEnding = (t : Table) → Good t → endedBy (withUnits (withPaths t (resetAttentionIn (t .paths) (t .count) true)) (acaClearedIn (t .units) Anywhere)) everyTask ≡ resetOf t

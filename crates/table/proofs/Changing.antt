@@ -158,9 +158,9 @@ module _ (t : Table) {i : ℕ} (a : Task) where
     unfolding alteredAt
     alter-dead k = rw (lt-ltb i 64 h, ← e, not-true b k)
 
-    pub alter-live : not b ≡ false → withTasks t (t .live) (set (t .tasks) i a) ≡ alteredAt t i a
+    pub alter-live : {c : Task} → not b ≡ false → c ≡ a → withTasks t (t .live) (set (t .tasks) i c) ≡ alteredAt t i a
     unfolding alteredAt
-    alter-live k = rw (lt-ltb i 64 h, ← e, not-false b k)
+    alter-live k d = rw (lt-ltb i 64 h, ← e, not-false b k, d)
 
 pub ruleset alter-ways = (alter-past, alter-dead, alter-live)
 
@@ -217,39 +217,7 @@ module _ (t : Table) (s : Selection) where
 
 pub ruleset end-loop = (end-start, end-wiped, end-kept, end-all, unmapped)
 
--- ---- finish and total reset
-
--- the table that a failed task leaves, and one that did not fail
-module _ (t : Table) (a : Task) {failed : Bool} {u : Table} where
-  pub claims : {l : List unit.Unit} → u ≡ withUnits t l → l ≡ claimedIn (t .units) (a .unit) (a .path) → failed ≡ true → u ≡ claimedBy t a failed
-  claims d h k = d ∙ rw (h, k)
-
-  pub claims-nothing : u ≡ t → failed ≡ false → u ≡ claimedBy t a failed
-  claims-nothing d k = d ∙ rw k
-
-module _ (t : Table) {i : ℕ} (failed : Bool) (transferred : ℕ) where
-  pub finish-past : 64 ≤ i → t ≡ finished t i failed transferred
-  unfolding finished
-  finish-past h = rw (le-ltb i 64 h)
-
-  module _ {b : Bool} (h : i < 64) (e : b ≡ (isLive (t .live) i && isRunning (taskAt t i .phase))) where
-    pub finish-idle : not b ≡ true → t ≡ finished t i failed transferred
-    unfolding finished
-    finish-idle k = rw (lt-ltb i 64 h, ← e, not-true b k)
-
-    module _ (k : not b ≡ false) {u : Table} (d : u ≡ claimedBy t (taskAt t i) failed) {q : Bool} (f : q ≡ hasConfirm (taskAt t i .sequel)) where
-      pub finish-stays : q ≡ true → withTasks u (u .live) (set (u .tasks) i (awaits transferred (taskAt t i))) ≡ finished t i failed transferred
-      unfolding finished
-      finish-stays c =
-          let live : true ≡ isLive (t .live) i = sym (both (isLive (t .live) i) _ (sym e ∙ not-false b k) .0) in
-          rw (lt-ltb i 64 h, ← e, not-false b k, d)
-          (chosen _ (sym c ∙ f) (alter-live (claimedBy t (taskAt t i) failed) (awaits transferred (taskAt t i)) h live refl))
-
-      pub finish-ends : {v : Table} {s : Selection} → q ≡ false → v ≡ endedBy u s → s ≡ runningAs (taskAt t i .arrival) → v ≡ finished t i failed transferred
-      unfolding finished
-      finish-ends c g n = g ∙ rw (lt-ltb i 64 h, ← e, not-false b k, ← f, c, d, n)
-
-pub ruleset finish-ways = (claims, claims-nothing, finish-past, finish-idle, finish-stays, finish-ends)
+-- ---- total reset
 
 pub reset-all : (t : Table) {l : List path.Path} {u : unit.Unit} {a : Task} → l ≡ resetAttentionIn (t .paths) (t .count) true → u ≡ noUnit → a ≡ noTask
     → record { live = 0; next = t .next; count = t .count; attached = t .attached; paths = l; units = replicate 8 u; tasks = replicate 64 a } ≡ resetOf t
@@ -259,9 +227,6 @@ reset-all t e h k = rw (e, h, k)
 -- ---- the map of the paths that lose a task
 
 module _ (t : Table) (unit sender : ℕ) where
-  pub other-as : {s : Selection} {r : Pick} {b : Bool} (p : ℕ) → length (t .tasks) ≡ 64 → s ≡ fromOn p unit → r ≡ pickOf t s → b ≡ (ltb p (t .count) && (not (eqb p sender) && r .found)) → b ≡ isOtherOn t unit sender p
-  other-as p n s k f = f ∙ rw (found-any t (fromOn p unit) (k ∙ ap (pickOf t) s) n)
-
   pub others-start : 0 ≡ mapOf 0 (isOtherOn t unit sender)
   others-start = sym (mapOf-start (isOtherOn t unit sender))
 

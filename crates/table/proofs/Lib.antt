@@ -4,4 +4,5 @@ pub mod Weights
 pub mod Setting
 pub mod Lists
 pub mod Unique
+pub mod Stepping
 mod Changing

@@ -6,17 +6,20 @@ use mathlib.Core.List.{List}
 use Rattle.wire.specs.Unique.{One}
 use Rattle.task.specs.declared.Kind.{Kind}
 use Rattle.task.specs.declared.Sequel.{Sequel}
+use Rattle.task.specs.declared.Task.{Task}
 use Rattle.task.specs.declared.select.Selection.{Selection}
 use Rattle.task.specs.declared.select.Place.{Place}
 use Rattle.table.specs.Tables.{zeroTable, pathAt, unitAt, taskAt, bitOf, isAttached, isNothing, isReset, isCleared, hasAca, ownedBy, acaAt, placeOf, pathOf, pickOf, hasRoom}
 use Rattle.table.specs.Tables.{markedIn, attentionGoneIn, resetAttentionIn, clearedAttentionIn, acaClearedIn, othersOn}
 use Rattle.table.specs.Tables.{accepted, endedBy, started, restarted, finished, resetOf}
+use Rattle.table.specs.Steps.{stepped, finishStep, finishUnits, holdersOf}
 use Rattle.table.specs.Setup.{badList, setupTable}
 use Rattle.table.specs.declared.Attention.{Attention}
 use Rattle.table.specs.declared.Aca.{Aca}
 use Rattle.table.specs.declared.Path as path
 use Rattle.table.specs.declared.Unit as unit
 use Rattle.table.specs.declared.Table.{Table}
+use Rattle.table.specs.declared.steps.Step.{Step}
 
 pub record AnswersAreOne : Type 0 where
   pub path-of : (t : Table) (id : ℕ) → One (pathOf t id)
@@ -42,6 +45,10 @@ pub record AnswersAreOne : Type 0 where
   pub restart : (t : Table) (i offset : ℕ) → One (restarted t i offset)
   pub finish : (t : Table) (i : ℕ) (failed : Bool) (transferred : ℕ) → One (finished t i failed transferred)
   pub reset : (t : Table) → One (resetOf t)
+  pub step : (t : Table) (s : Step) → One (stepped t s)
+  pub finish-step : (live i : ℕ) (a : Task) (transferred : ℕ) → One (finishStep live i a transferred)
+  pub finish-units : (units : List unit.Unit) (live i : ℕ) (a : Task) (failed : Bool) → One (finishUnits units live i a failed)
+  pub holders : (t : Table) (s : Selection) → One (holdersOf t s)
   pub others-on : (t : Table) (unit sender : ℕ) → One (othersOn t unit sender)
   pub bad-list : (ids : List ℕ) → One (badList ids)
   pub zero : One zeroTable

@@ -1,8 +1,8 @@
-// Tasks: the scan that the table lends its records to, and what is accepted, started, finished, ended and reset.
+// Tasks: the scan that the table lends its records to, who has a task, and what is accepted, started, finished, ended
+// and reset. Each of these is one step of steps.rt, but reset.
 ghost use mathlib.Core.Path.{_≡_};
 ghost use Rattle.table.specs.Tables.{taskAt, pickOf, hasRoom, accepted, endedBy, started, restarted, finished, resetOf, othersOn};
-ghost use Rattle.task.specs.Map.{isLive};
-ghost use Rattle.task.specs.Tasks.{isRunning};
+ghost use Rattle.table.specs.Steps.{holdersOf};
 ghost use mathlib.Core.Bool.{_&&_, not};
 ghost use lib.Dec.{ltb, eqb};
 ghost use Prim.Native.Nat.{_<_, _+_, _^_};
@@ -10,13 +10,20 @@ use crate::LAST_ARRIVAL;
 use crate::MOST_PATHS;
 use crate::Table;
 use crate::UNITS;
+use crate::steps::Alteration;
+use crate::steps::Step;
 use task::Kind;
-use task::Phase;
 use task::RECORDS;
 use task::Sequel;
 use task::Task;
 use task::scan::Pick;
 use task::select::Selection;
+
+// Who has a live task that a selection picks: the map of their places in the path list, and whether there is anyone.
+pub struct Holders {
+    pub paths: u64,
+    pub found: bool,
+}
 
 impl Table {
     // Of the live tasks that the selection picks, the one that goes next. The records are lent to the scan.
@@ -47,87 +54,43 @@ impl Table {
     }
 
     // A new waiting task in the lowest free record, under the next arrival number; with no room nothing changes.
-    pub fn accept(mut self, path: u8, tag: u16, unit: u8, kind: Kind, sequel: Sequel) -> Table
+    pub fn accept(self, path: u8, tag: u16, unit: u8, kind: Kind, sequel: Sequel) -> Table
         ensures { λ r. ⌜ r ≡ accepted self path tag unit kind sequel ⌝ }
     {
-        let i = task::map::lowest_free(self.live);
-        let next = self.next;
-        if i >= RECORDS {
-            return self;
-        }
-        if next > LAST_ARRIVAL {
-            return self;
-        }
-        let a = Task {
-            arrival: next,
-            position: 0,
-            tag,
+        self.step(Step::Accept {
             path,
+            tag,
             unit,
             kind,
-            phase: Phase::Waiting,
             sequel,
-        };
-        self.tasks[i] = a;
-        self.live = task::map::with_bit(self.live, i);
-        self.next = next + 1;
-        self
+        })
     }
 
-    // Every live task that the selection picks ends: one pass, its record wiped and its place free.
-    pub fn end(mut self, s: Selection) -> Table
+    // Every live task that the selection picks ends: its record is wiped and its place free.
+    pub fn end(self, s: Selection) -> Table
         ensures { λ r. ⌜ r ≡ endedBy self s ⌝ }
     {
-        let mut i: usize = 0;
-        while i < RECORDS {
-            let a = self.tasks[i];
-            if task::select::picked_live(self.live, s, i, a) {
-                let none = task::no_task();
-                self.tasks[i] = none;
-                self.live = task::map::without_bit(self.live, i);
-            }
-            i += 1;
-        }
-        self
+        self.step(Step::End(s))
     }
 
     // The live task in the record runs.
-    pub fn start(mut self, i: usize) -> Table
+    pub fn start(self, i: usize) -> Table
         ensures { λ r. ⌜ r ≡ started self i ⌝ }
     {
-        if i >= RECORDS {
-            return self;
-        }
-        if !task::map::is_live(self.live, i) {
-            return self;
-        }
-        let a = self.tasks[i];
-        let b = Task {
-            phase: Phase::Running,
-            ..a
-        };
-        self.tasks[i] = b;
-        self
+        self.step(Step::Alter {
+            place: i,
+            by: Alteration::Run,
+        })
     }
 
     // The live task in the record waits again, to start at an offset.
-    pub fn restart(mut self, i: usize, offset: u32) -> Table
+    pub fn restart(self, i: usize, offset: u32) -> Table
         ensures { λ r. ⌜ r ≡ restarted self i offset ⌝ }
     {
-        if i >= RECORDS {
-            return self;
-        }
-        if !task::map::is_live(self.live, i) {
-            return self;
-        }
-        let a = self.tasks[i];
-        let b = Task {
-            phase: Phase::Waiting,
-            position: offset as u64,
-            ..a
-        };
-        self.tasks[i] = b;
-        self
+        self.step(Step::Alter {
+            place: i,
+            by: Alteration::Restart(offset),
+        })
     }
 
     // The device has finished the task that runs in the record: with CONFIRM it waits to be confirmed, else it ends.
@@ -136,29 +99,11 @@ impl Table {
     pub fn finish(mut self, i: usize, failed: bool, transferred: u64) -> Table
         ensures { λ r. ⌜ r ≡ finished self i failed transferred ⌝ }
     {
-        if i >= RECORDS {
-            return self;
-        }
-        let a = self.tasks[i];
-        if !runs_in(self.live, i, a) {
-            return self;
-        }
-        let sequel = a.sequel;
-        if failed {
-            let units = self.units;
-            let claimed = crate::units::claim(units, a.unit, a.path);
-            self.units = claimed;
-        }
-        if task::has_confirm(sequel) {
-            let b = Task {
-                phase: Phase::Unconfirmed,
-                position: transferred,
-                ..a
-            };
-            self.tasks[i] = b;
-            return self;
-        }
-        self.end(Selection::running_as(a.arrival))
+        let a = self.task_at(i);
+        let units = self.units;
+        let claimed = crate::steps::finish_units(units, self.live, i, a, failed);
+        self.units = claimed;
+        self.step(crate::steps::finish_step(self.live, i, a, transferred))
     }
 
     // Total reset: no task, no mark, no ACA, reset attention on every listed path; arrival numbers go on.
@@ -178,32 +123,40 @@ impl Table {
         self
     }
 
+    // Who has a live task that the selection picks: one pass over the records.
+    pub fn holders(self, s: Selection) -> Holders
+        ensures { λ r. ⌜ r ≡ holdersOf self s ⌝ }
+    {
+        let mut paths: u64 = 0;
+        let mut found = false;
+        let mut i: usize = 0;
+        while i < RECORDS {
+            let a = self.tasks[i];
+            if task::select::picked_live(self.live, s, i, a) {
+                paths = task::map::with_bit(paths, a.path as usize);
+                found = true;
+            }
+            i += 1;
+        }
+        Holders { paths, found }
+    }
+
     // The map of the listed paths, other than the sender's, that have a live task on the unit.
     pub fn others_on(self, unit: u8, sender: u8) -> u8
         ensures { λ r. ⌜ r ≡ othersOn self unit sender ⌝ }
     {
+        let held = self.holders(Selection::on_unit(unit));
         let mut map: u8 = 0;
         let mut p: u8 = 0;
         while p < MOST_PATHS {
-            let found = self.pick(Selection::from_on(p, unit));
-            if is_other_on(self.count, sender, p, found.found) {
+            let has = task::map::is_live(held.paths, p as usize);
+            if is_other_on(self.count, sender, p, has) {
                 map = with_path(map, p);
             }
             p += 1;
         }
         map
     }
-}
-
-// Whether record i is live and its task a runs.
-fn runs_in(live: u64, i: usize, a: Task) -> bool
-    ensures { λ r. ⌜ r ≡ (isLive live i && isRunning (a .phase)) ⌝ }
-{
-    if task::map::is_live(live, i) {
-        let phase = a.phase;
-        return task::is_running(phase);
-    }
-    false
 }
 
 // Whether the path at p loses a task: it is listed, not the sender's, and has one.

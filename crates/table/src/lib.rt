@@ -3,6 +3,7 @@
 pub mod changes;
 pub mod paths;
 pub mod setup;
+pub mod steps;
 pub mod units;
 
 use task::RECORDS;

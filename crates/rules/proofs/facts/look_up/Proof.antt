@@ -20,8 +20,8 @@ pick-requires c κs = search needs
 aca-on-requires : tie.Need-aca-on-requires
 aca-on-requires c κs = search needs
 
-pick-requires-2 : tie.Need-pick-requires-2
-pick-requires-2 c κs = search needs
+holders-requires : tie.Need-holders-requires
+holders-requires c κs = search needs
 
 others-on-requires : tie.Need-others-on-requires
 others-on-requires c κs = search needs
@@ -50,7 +50,7 @@ look-up-spec =
     named-requires
     pick-requires
     aca-on-requires
-    pick-requires-2
+    holders-requires
     others-on-requires
     has-room-requires
     is-attached-requires

@@ -1,32 +1,36 @@
--- `Table::others_on` meets its contract. The loop's invariant: the map is that of the others below p; and the records
--- are 64. Assumes nothing.
-use Prim.Native.Nat.{_≤_, _-_}
+-- `Table::others_on` meets its contract. The loop's invariant: the map is that of the others below p. Assumes nothing.
+use Prim.Native.Nat.{_≤_, _<_, _-_}
 use mathlib.Core.Path.{_≡_, _∙_}
 use mathlib.Core.Logic.{⊎-elim}
 use native.Mathlib.Omega.{arith}
 use borrow.Author.Needs.{needs}
-use lib.ListN.{length}
 use Rattle.task.specs.Index.{mapOf}
-use Rattle.table.proofs.Lists.{unmapped}
 use Rattle.table.specs.Tables.{isOtherOn}
-use Rattle.table.proofs.Changing.{others-add, others-skip, other-as, others-loop}
+use Rattle.table.proofs.Changing.{others-add, others-skip, others-loop}
+use Rattle.table.proofs.Stepping.{other-as}
 use Rattle.table.proofs.Table.others_on.Statement.{statement}
 use Rattle.table.proofs.Table.others_on.Tie as tie
 
 abbrev Inv-loop : tie.InvT-loop
-Inv-loop self unit sender map₀ p₀ map p = (p ≤ 8) × (map ≡ mapOf p (isOtherOn self unit sender)) × (length (self .tasks) ≡ 64)
+Inv-loop self unit sender held map₀ p₀ map p = (p ≤ 8) × (map ≡ mapOf p (isOtherOn self unit sender))
 
 abbrev μ-loop : tie.MeasureT-loop
-μ-loop self unit sender map₀ p₀ map p = 8 - p
+μ-loop self unit sender held map₀ p₀ map p = 8 - p
+
+on-unit-requires : tie.Need-on-unit-requires Inv-loop μ-loop
+on-unit-requires c κs = search needs
+
+holders-requires : tie.Need-holders-requires Inv-loop μ-loop
+holders-requires c κs = search needs
 
 loop-holds : tie.Need-loop-holds Inv-loop μ-loop
-loop-holds c = (omega arith, search others-loop, search (needs, unmapped))
+loop-holds c = (omega arith, search others-loop)
 
-from-on-requires : tie.Need-from-on-requires Inv-loop μ-loop
-from-on-requires c κs = search needs
+cast-is-live : tie.Need-cast-is-live Inv-loop μ-loop
+cast-is-live c = search needs
 
-pick-requires : tie.Need-pick-requires Inv-loop μ-loop
-pick-requires c κs = search needs
+is-live-requires : tie.Need-is-live-requires Inv-loop μ-loop
+is-live-requires c κs = search needs
 
 is-other-on-requires : tie.Need-is-other-on-requires Inv-loop μ-loop
 is-other-on-requires c κs = search needs
@@ -42,12 +46,13 @@ loop-less c = search needs
 
 loop-again : tie.Need-loop-again Inv-loop μ-loop
 loop-again c =
-    let loop = c .before .before .before .before .before .loop in
+    let d = c .before .before .before .before in
+    let loop = d .loop in
     let inv : loop .map ≡ _ = loop .inv .1 in
+    let l : loop .p < 8 = omega arith in
     let e : c .before .is-other-on .result ≡ _ =
-    other-as _ _ _ _ (loop .inv .2) (c .before .before .before .from-on .ensures) (c .before .before .pick .ensures) (c .before .is-other-on .ensures) in
-    ⊎-elim (λ w. (omega arith, others-add _ _ _ _ inv (w .2 ∙ w .1 .ensures) (w .0 .taken) e, loop .inv .2))
-    (λ w. (omega arith, others-skip _ _ _ _ inv (w .1) (w .0 .left) e, loop .inv .2)) (c .if1 .came)
+    other-as _ _ _ _ l (d .before .before .on-unit .ensures) (d .before .holders .ensures) (c .before .before .is-live .ensures) (c .before .is-other-on .ensures) in
+    ⊎-elim (λ w. (omega arith, others-add _ _ _ _ inv (w .2 ∙ w .1 .ensures) (w .0 .taken) e)) (λ w. (omega arith, others-skip _ _ _ _ inv (w .1) (w .0 .left) e)) (c .if1 .came)
 
 returns : tie.Need-returns Inv-loop μ-loop
 returns c = search others-loop
@@ -58,9 +63,11 @@ others-on-spec =
     (tie.spec
     Inv-loop
     μ-loop
+    on-unit-requires
+    holders-requires
     loop-holds
-    from-on-requires
-    pick-requires
+    cast-is-live
+    is-live-requires
     is-other-on-requires
     with-path-requires
     add-p

@@ -1,0 +1,180 @@
+-- One step of the records, what a finish makes of them, and who has a task. Assumes nothing.
+--     altered-ways, step-ways      for `search`, the ways out of the functions so named, by the variant
+--     finish-is-step, finish-of-none      a finish is a change of the units and a step
+--     held-loop      for `search`, the turns of the loop that gathers who has a task;        held-on      the paths that have one on a unit
+use Prim.Native.Nat.{ℕ, zero, suc, _+_, _^_, _≤_, _<_}
+use mathlib.Core.Path.{_≡_, refl, sym, ap, ap₂, _∙_}
+use mathlib.Core.Bool.{Bool, true, false, cond, not, _&&_, _||_, or-true, or-false, and-true, and-false}
+use mathlib.Core.List.{List}
+use mathlib.Core.Logic.{inl, inr}
+use native.Mathlib.Nat.{le-antisymm}
+use native.Mathlib.Numerals.{add-one}
+use native.Mathlib.Omega.{arith}
+use lib.Dec.{eqb, ltb, lit<}
+use lib.ListN.{length}
+use borrow.Author.Tests.{eq-eqb, ne-eqb, eqb-true, eqb-false}
+use Rattle.task.specs.Index.{someBelow, mapOf}
+use Rattle.task.specs.Map.{isLive, withBit}
+use Rattle.task.specs.Tasks.{hasConfirm, runs, restarts, awaits}
+use Rattle.task.specs.Selections.{picks, picksLive, onUnit, fromOn}
+use Rattle.task.specs.declared.Kind.{Kind}
+use Rattle.task.specs.declared.Sequel.{Sequel}
+use Rattle.task.specs.declared.Task.{Task}
+use Rattle.task.specs.declared.select.Selection.{Selection}
+use Rattle.task.proofs.Ways.{either-way, answered-true, answered-false}
+use Rattle.task.proofs.Places.{mapOf-ext}
+use Rattle.task.proofs.Bits.{dead-zero, is-mapOf, live-mapOf, mapOf-lt}
+use Rattle.task.proofs.Maps.{with-same, with-other, with-lt}
+use Rattle.table.specs.Tables.{taskAt, picksAt, anyLive, pickOf, isOtherOn, withUnits, accepted, endedBy, alteredAt, runsAt, finished}
+use Rattle.table.specs.Steps.{alteredBy, stepped, finishStep, finishUnits, holdsOne, holdersOf}
+use Rattle.table.specs.declared.Unit as unit
+use Rattle.table.specs.declared.Table.{Table}
+use Rattle.table.specs.declared.steps.Alteration.{Alteration}
+use Rattle.table.specs.declared.steps.Alteration.the-variants.{Run, Restart, Await}
+use Rattle.table.specs.declared.steps.Step.{Step}
+use Rattle.table.specs.declared.steps.Step.the-variants.{Stay, Accept, Alter, End}
+use Rattle.table.specs.declared.changes.Holders.{Holders}
+use Rattle.table.proofs.Views.{any-found}
+
+-- ---- a step, by its variant
+
+module _ (a : Task) {by : Alteration} where
+  pub as-run : by ≡ Run → runs a ≡ alteredBy by a
+  as-run e = rw e
+
+  pub as-restart : {offset : ℕ} → by ≡ Restart offset → restarts offset a ≡ alteredBy by a
+  as-restart e = rw e
+
+  pub as-await : {transferred : ℕ} → by ≡ Await transferred → awaits transferred a ≡ alteredBy by a
+  as-await e = rw e
+
+pub ruleset altered-ways = (as-run, as-restart, as-await)
+
+module _ (t : Table) {s : Step} where
+  pub as-stay : s ≡ Stay → t ≡ stepped t s
+  unfolding stepped
+  as-stay e = rw e
+
+  pub as-accept : {path tag unit : ℕ} {kind : Kind} {sequel : Sequel} {v : Table} → s ≡ Accept path tag unit kind sequel → v ≡ accepted t path tag unit kind sequel → v ≡ stepped t s
+  unfolding stepped
+  as-accept e h = rw e h
+
+  pub as-alter : {i : ℕ} {by : Alteration} {v : Table} → s ≡ Alter i by → v ≡ alteredAt t i (alteredBy by (taskAt t i)) → v ≡ stepped t s
+  unfolding stepped
+  as-alter e h = rw e h
+
+  pub as-end : {q : Selection} {v : Table} → s ≡ End q → v ≡ endedBy t q → v ≡ stepped t s
+  unfolding stepped
+  as-end e h = rw e h
+
+pub ruleset step-ways = (as-stay, as-accept, as-alter, as-end)
+
+-- ---- a finish of the task that stands in record i, and of a record that is none
+
+module _ (t : Table) (failed : Bool) (transferred : ℕ) where
+  pub finish-is-step : (i : ℕ) → stepped (withUnits t (finishUnits (t .units) (t .live) i (taskAt t i) failed)) (finishStep (t .live) i (taskAt t i) transferred) ≡ finished t i failed transferred
+  unfolding stepped finishStep finishUnits finished
+  finish-is-step i =
+      elim (either-way (runsAt t i)) [
+        | inl e ↦ elim (either-way (hasConfirm (taskAt t i .sequel))) [ inl c ↦ rw (e, c) | inr c ↦ rw (e, c) ]
+        | inr e ↦ rw e
+      ]
+
+  pub finish-of-none : (a : Task) → stepped (withUnits t (finishUnits (t .units) (t .live) 64 a failed)) (finishStep (t .live) 64 a transferred) ≡ finished t 64 failed transferred
+  unfolding stepped finishStep finishUnits finished
+  finish-of-none a = refl
+
+  pub finishes : (i : ℕ) {a : Task} {l : List unit.Unit} {q : Step} {v : Table} → a ≡ taskAt t i → l ≡ finishUnits (t .units) (t .live) i a failed → q ≡ finishStep (t .live) i a transferred
+      → v ≡ stepped (withUnits t l) q → v ≡ finished t i failed transferred
+  finishes i h d e k = k ∙ rw (d, e, h) (finish-is-step i)
+
+-- ---- who has a task that is picked
+
+module _ (t : Table) (s : Selection) where
+  -- record i is picked, and its task is of the path at p
+  abbrev ofPath : ℕ → ℕ → Bool
+  ofPath p i = picksAt t s i && eqb (taskAt t i .path) p
+
+  -- the map of the paths with a task that is picked below k
+  unfoldable pub heldBelow : ℕ → ℕ
+  heldBelow k = mapOf 64 (λ p. someBelow k (ofPath p))
+
+  pub held-start : 0 ≡ heldBelow 0
+  unfolding heldBelow someBelow
+  held-start = is-mapOf 64 0 (λ p. false) (lit< tt) (λ p _. dead-zero p)
+
+  -- some live task below k is picked
+  unfoldable pub foundBelow : ℕ → Bool
+  foundBelow k = someBelow k (picksAt t s)
+
+  pub found-start : false ≡ foundBelow 0
+  unfolding foundBelow someBelow
+  found-start = refl
+
+  module _ {m : ℕ} (k : ℕ) (e : m ≡ heldBelow k) where
+    held-lt : m < 2 ^ 64
+    unfolding heldBelow
+    held-lt = rw e (mapOf-lt 64 (λ p. someBelow k (ofPath p)))
+
+    held-bit : (p : ℕ) → p < 64 → isLive m p ≡ someBelow k (ofPath p)
+    unfolding heldBelow
+    held-bit p l = rw e (live-mapOf 64 p (λ q. someBelow k (ofPath q)) l)
+
+    module _ {b : Bool} (h : b ≡ picksAt t s k) where
+      -- the map with the task's path, at each place
+      grown : picksAt t s k ≡ true → (p : ℕ) → p < 64 → isLive (withBit m (taskAt t k .path)) p ≡ (someBelow k (ofPath p) || ofPath p k)
+      grown y p l =
+          elim (either-way (eqb (taskAt t k .path) p)) [
+            | inl q ↦ let z : taskAt t k .path ≡ p = eqb-true _ _ q in rw (y, q, z) (with-same m p l ∙ sym (or-true (someBelow k (ofPath p))))
+            | inr q ↦ rw (y, q) (with-other m (taskAt t k .path) p (λ z. eqb-false _ _ q (sym z)) ∙ held-bit p l ∙ sym (or-false (someBelow k (ofPath p))))
+          ]
+
+      pub held-more : {v : ℕ} → b ≡ true → v ≡ withBit m (taskAt t k .path) → v ≡ heldBelow (k + 1)
+      unfolding heldBelow someBelow
+      held-more y d = d ∙ is-mapOf 64 _ _ (with-lt m (taskAt t k .path) held-lt) (λ p l. rw add-one (grown (sym h ∙ y) p l))
+
+      pub held-same : {v : ℕ} → b ≡ false → v ≡ m → v ≡ heldBelow (k + 1)
+      unfolding heldBelow someBelow
+      held-same n d =
+          let z : picksAt t s k ≡ false = sym h ∙ n in
+          d ∙ is-mapOf 64 _ _ held-lt (λ p l. rw (add-one, z) (held-bit p l ∙ sym (or-false (someBelow k (ofPath p)))))
+
+  module _ {f b : Bool} (k : ℕ) (e : f ≡ foundBelow k) (h : b ≡ picksAt t s k) where
+    pub found-more : {v : Bool} → b ≡ true → v ≡ true → v ≡ foundBelow (k + 1)
+    unfolding foundBelow someBelow
+    found-more y d = rw (add-one, ← h, y) (d ∙ sym (or-true (someBelow k (picksAt t s))))
+
+    pub found-same : {v : Bool} → b ≡ false → v ≡ f → v ≡ foundBelow (k + 1)
+    unfolding foundBelow someBelow
+    found-same n d = rw (add-one, ← h, n) (d ∙ e ∙ sym (or-false (someBelow k (picksAt t s))))
+
+  pub held-all : {m k : ℕ} {f : Bool} → k ≤ 64 → 64 ≤ k → m ≡ heldBelow k → f ≡ foundBelow k → length (t .tasks) ≡ 64 → record { paths = m; found = f } ≡ holdersOf t s
+  unfolding heldBelow foundBelow holdersOf anyLive
+  held-all h l e g n = rw (e, g, le-antisymm h l, any-found t s n)
+
+pub ruleset held-loop = (held-start, found-start, held-more, held-same, found-more, found-same, held-all)
+
+-- ---- the paths that have a task on a unit
+
+some-alike : (n : ℕ) (p q : ℕ → Bool) → ((i : ℕ) → p i ≡ q i) → someBelow n p ≡ someBelow n q
+unfolding someBelow
+some-alike zero p q e = refl
+some-alike (suc n) p q e = ap₂ _||_ (some-alike n p q e) (e n)
+
+-- of the tasks on a unit those of a path
+on-from : (p unit : ℕ) (a : Task) (b : Bool) → ((b && picks (onUnit unit) a) && eqb (a .path) p) ≡ (b && picks (fromOn p unit) a)
+unfolding picks
+on-from p unit a true =
+    elim (either-way (eqb (a .path) p)) [
+      | inl e ↦ rw e (and-true (eqb (a .unit) unit && true))
+      | inr e ↦ rw e (and-false (eqb (a .unit) unit && true))
+    ]
+on-from p unit a false = refl
+
+module _ (t : Table) (unit sender : ℕ) where
+  pub other-as : {s : Selection} {h : Holders} {has b : Bool} (p : ℕ) → p < 8 → s ≡ onUnit unit → h ≡ holdersOf t s → has ≡ isLive (h .paths) p
+      → b ≡ (ltb p (t .count) && (not (eqb p sender) && has)) → b ≡ isOtherOn t unit sender p
+  unfolding holdersOf anyLive
+  other-as p l e h g f =
+      let k : p < 64 = omega arith in
+      f ∙ rw (g, h, e, live-mapOf 64 p (holdsOne t (onUnit unit)) k, some-alike 64 _ _ (λ i. on-from p unit (taskAt t i) (isLive (t .live) i)))
