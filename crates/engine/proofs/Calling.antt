@@ -2,7 +2,7 @@
 --     gates      for `search`, a call that makes one test after another, under `unfolding` of its definition: what it refuses, and what comes after the last test
 --     heard-all      what comes after the last test of `heard`;        chosen      what a start picks
 --     plan-ways, step-ways, go-ways, may-ways, reset-ways, setup-ways      for `search`, the ways out of the functions so named
---     unread, read-by, carries-out, carries      a message: the plan for what was heard, the table after it, and the outcome
+--     unread, read-by, carries-nothing, carries-out, carries      a message: the plan for what was heard, the table after it, and the outcome
 --     starts, finishes      the outcome, by what was asked of the table, the verdict and the step
 --     answers      the contract of a call with a reply buffer
 use Prim.Native.Nat.{ℕ, _<_, _≤_}
@@ -152,6 +152,10 @@ pub ruleset step-ways = (stays-so, accepts-so, ends-so, restarts-so)
 module _ (t : Table) (pl : Plan) {paths : List path.Path} {units : List unit.Unit} (e : paths ≡ pathsAfter (t .paths) (t .count) (pl .change)) (h : units ≡ unitsAfter (t .units) (pl .change)) where
   abbrev changed : Table
   changed = record { live = t .live; next = t .next; count = t .count; attached = t .attached; paths = paths; units = units; tasks = t .tasks }
+
+  pub carries-nothing : {u : Table} → pl .records ≡ records.Nothing → u ≡ changed → u ≡ carriedOut t pl
+  unfolding carriedOut withRecords
+  carries-nothing k a = a ∙ rw (k, e, h)
 
   pub carries-out : {q : Step} {u : Table} → q ≡ stepOf (pl .records) → u ≡ stepped changed q → u ≡ carriedOut t pl
   unfolding carriedOut

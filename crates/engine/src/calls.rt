@@ -150,7 +150,10 @@ pub fn message(mut t: Table, m: &[u8], reply: &mut [u8]) -> Outcome
     let units = t.units;
     let changed_units = plan::change_units(units, change);
     t.units = changed_units;
-    t = t.step(step_of(records));
+    match records {
+        RecordChange::Nothing => {}
+        _ => t = t.step(step_of(records)),
+    }
     // The reply goes by a copy of the answer, so that the outcome is made where it is handed back.
     let said = plan.answer;
     reply_to(said, reply);

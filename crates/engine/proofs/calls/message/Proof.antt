@@ -3,7 +3,8 @@ use mathlib.Core.Path.{_≡_, sym, _∙_}
 use mathlib.Core.Logic.{⊎-elim}
 use borrow.Author.Needs.{needs}
 use denote.Ref.{now}
-use Rattle.engine.proofs.Calling.{planHeard, unread, read-by, carries-out, answers, carries}
+use Rattle.engine.specs.Calls.{carriedOut}
+use Rattle.engine.proofs.Calling.{planHeard, unread, read-by, carries-nothing, carries-out, answers, carries}
 use Rattle.engine.proofs.calls.message.Statement.{statement}
 use Rattle.engine.proofs.calls.message.Tie as tie
 
@@ -46,6 +47,9 @@ change-paths-requires c κs = search needs
 change-units-requires : tie.Need-change-units-requires
 change-units-requires c κs = search needs
 
+enum-told : tie.Need-enum-told
+enum-told c = search needs
+
 step-of-requires : tie.Need-step-of-requires
 step-of-requires c κs = search needs
 
@@ -66,9 +70,9 @@ same-length c = search needs
 
 returns : tie.Need-returns
 returns c =
-    -- h: after the step of the records; g: where the ways to the plan meet
+    -- h: where the ways of the change of the records meet; g: where the ways to the plan meet
     let h = c .before .before .before .before .before .before in
-    let g = h .before .before .before .before .before .before in
+    let g = h .before .before .before .before .before in
     let s = g .before .before in
     let args = s .before .before .before .args in
     let t = args .t in
@@ -82,8 +86,10 @@ returns c =
       read-by t _ (w .9) (w .3 .ensures) (w .4 .ensures) (w .5 .ensures) (w .6 .ensures) (w .7 .ensures) (w .10 ∙ w .8 .ensures),
     ))
     (g .match .came) in
-    let d = h .before .before in
-    let u = carries-out t pl (d .before .before .change-paths .ensures) (d .change-units .ensures) (h .before .step-of .ensures) (h .step .ensures) in
+    let e = h .before .before .before .change-paths .ensures in
+    let f = h .before .change-units .ensures in
+    let u : h .match2 .t ≡ carriedOut t pl =
+    ⊎-elim (λ w. carries-nothing t pl e f (w .1 .given .1) (w .2)) (λ w. carries-out t pl e f (w .1 .ensures) (w .3 ∙ w .2 .ensures)) (h .match2 .came) in
     answers (carries t _ _ (s .is-sound .ensures) (p .0 ∙ g .before .heard .ensures) (p .1) u (c .before .sender-of .ensures) (c .reply-path .ensures)) (c .before .before .before .before .reply-to .ensures)
 
 pub message-spec : {M : Type 1} → statement M
@@ -103,6 +109,7 @@ message-spec =
     plan-for-requires
     change-paths-requires
     change-units-requires
+    enum-told
     step-of-requires
     step-requires
     reply-to-requires
