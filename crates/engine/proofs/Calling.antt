@@ -2,7 +2,7 @@
 --     gates      for `search`, a call that makes one test after another, under `unfolding` of its definition: what it refuses, and what comes after the last test
 --     heard-all      what comes after the last test of `heard`;        chosen      what a start picks
 --     plan-ways, step-ways, go-ways, may-ways, reset-ways, setup-ways      for `search`, the ways out of the functions so named
---     unread, read-by, carries-nothing, carries-out, carries      a message: the plan for what was heard, the table after it, and the outcome
+--     unread, read-by, read-by-unit, carries-nothing, carries-out, carries      a message: the plan for what was heard, the table after it, and the outcome
 --     starts, finishes      the outcome, by what was asked of the table, the verdict and the step
 --     answers      the contract of a call with a reply buffer
 use Prim.Native.Nat.{ℕ, _<_, _≤_}
@@ -48,9 +48,9 @@ use Rattle.table.specs.declared.Aca.{Aca}
 use Rattle.table.specs.declared.Path as path
 use Rattle.table.specs.declared.Unit as unit
 use Rattle.table.specs.declared.Table.{Table}
-use Rattle.rules.specs.Facts.{factsOf, lookupOf}
+use Rattle.rules.specs.Facts.{factsOf, lookupOf, unitAlone}
 use Rattle.rules.specs.declared.facts.Lookup.{Lookup}
-use Rattle.plan.specs.Plans.{askedOf, tagAsked, unitAsked, clearsSet, replyOf, refusing, planOf, pathsAfter, unitsAfter}
+use Rattle.plan.specs.Plans.{askedOf, tagAsked, unitAsked, clearsSet, goesByUnit, replyOf, refusing, planOf, pathsAfter, unitsAfter}
 use Rattle.plan.specs.declared.Request.{Request}
 use Rattle.plan.specs.declared.Asked.{Asked}
 use Rattle.plan.specs.declared.Asked.the-variants.{By, Unread}
@@ -58,10 +58,10 @@ use Rattle.plan.specs.declared.RecordChange.{RecordChange}
 use Rattle.plan.specs.declared.RecordChange.the-variants as records
 use Rattle.plan.specs.declared.Plan.{Plan}
 use Rattle.plan.proofs.Answer.{the-type}
-use Rattle.plan.proofs.Promises.{others-unasked}
+use Rattle.plan.proofs.Promises.{others-unasked, tasks-unasked}
 use Rattle.plan.specs.declared.Answer.{Answer}
 use Rattle.plan.specs.declared.Answer.the-variants as answer
-use Rattle.engine.specs.Calls.{out, refused, heardOf, senderOf, planAt, planFor, withRecords, carriedOut, replyPath, carried, answeredTo, messageOf, verdict, settled, rejected, mayGo, choiceOn, startVerdict, startOf, mayFinish, sentSense, failed, finishVerdict, finishOf, totalResetOf, setupOf, replied, Answers, isAccepted}
+use Rattle.engine.specs.Calls.{out, refused, heardOf, senderOf, lookupFor, planAt, planFor, withRecords, carriedOut, replyPath, carried, answeredTo, messageOf, verdict, settled, rejected, mayGo, choiceOn, startVerdict, startOf, mayFinish, sentSense, failed, finishVerdict, finishOf, totalResetOf, setupOf, replied, Answers, isAccepted}
 use Rattle.engine.specs.Steps.{stepOf, chosenBy, judgedBy}
 use Rattle.engine.specs.declared.Outcome.{Outcome}
 use Rattle.engine.specs.declared.calls.Verdict.{Verdict}
@@ -114,6 +114,12 @@ unfolding lookupOf
 others-alike t m p tag next n u true w e = refl
 others-alike t m p tag next n u false w e = others-unasked (factsOf t p n u) _ 0 (othersOn t u p) next p tag m w (sym e)
 
+-- nor is a task, where the plan goes by the unit alone
+unit-alike : (t : Table) (m : List ℕ) (p tag next u : ℕ) (f : Bool) (w : Request) → goesByUnit w ≡ true → f ≡ isAttached t u → u ≡ unitAsked w
+    → planOf (unitAlone f) next p tag m w ≡ planOf (lookupFor t p tag w) next p tag m w
+unfolding lookupOf factsOf unitAlone
+unit-alike t m p tag next u f w y e k = tasks-unasked (unitAlone f) (lookupFor t p tag w) next p tag m w y (e ∙ ap (isAttached t) k)
+
 module _ (t : Table) (m : List ℕ) {a : Asked} {pl : Plan} where
   pub unread : {n : Refusal} → a ≡ Unread n → pl ≡ refusing n → pl ≡ planHeard t m a
   unfolding planHeard
@@ -123,6 +129,12 @@ module _ (t : Table) (m : List ℕ) {a : Asked} {pl : Plan} where
       → s ≡ lookupOf t p n u (cond b (othersOn t u p) 0) → pl ≡ cond (ltb p 8) (planOf s (t .next) p tag m w) (refusing Codes.unknownPath) → pl ≡ planHeard t m a
   unfolding planHeard planFor planAt
   read-by {tag = tag} {w = w} e p n u b s h = h ∙ rw (e, s, others-alike t m _ tag (t .next) _ _ _ w b, n, u, p)
+
+  -- what an order asks that goes by its unit alone
+  pub read-by-unit : {path tag p u : ℕ} {b f : Bool} {w : Request} {s : Lookup} → a ≡ By path tag w → p ≡ pathOf t path → u ≡ unitAsked w → b ≡ goesByUnit w → b ≡ true → f ≡ isAttached t u
+      → s ≡ unitAlone f → pl ≡ cond (ltb p 8) (planOf s (t .next) p tag m w) (refusing Codes.unknownPath) → pl ≡ planHeard t m a
+  unfolding planHeard planFor planAt
+  read-by-unit {tag = tag} {w = w} e p u g y f s h = h ∙ rw (e, s, unit-alike t m _ tag (t .next) _ _ w (sym g ∙ y) f u, p)
 
 -- the step that a plan asks for does what the plan says
 steps-so : (t : Table) (d : RecordChange) → stepped t (stepOf d) ≡ withRecords t d

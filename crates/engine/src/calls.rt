@@ -17,6 +17,7 @@ use plan::Request;
 use reply::Reply;
 use rules::facts::Lookup;
 use rules::facts::look_up;
+use rules::facts::unit_alone;
 use sound::is_sound;
 use table::Aca;
 use table::PATHS;
@@ -130,14 +131,13 @@ pub fn message(mut t: Table, m: &[u8], reply: &mut [u8]) -> Outcome
         Asked::Unread(n) => plan::refuse(n),
         Asked::By { path, tag, request } => {
             let p = t.path_of(path);
-            let named = plan::tag_asked(tag, request);
-            let lookup = look_up(
-                t,
-                p,
-                named,
-                plan::unit_asked(request),
-                plan::clears_set(request),
-            );
+            let lun = plan::unit_asked(request);
+            let lookup = if plan::goes_by_unit(request) {
+                unit_alone(t.is_attached(lun))
+            } else {
+                let named = plan::tag_asked(tag, request);
+                look_up(t, p, named, lun, plan::clears_set(request))
+            };
             plan_for(lookup, t.next, p, tag, m, request)
         }
     };

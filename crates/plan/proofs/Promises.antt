@@ -2,7 +2,7 @@
 -- plans go by the other paths on the unit. Assumes nothing.
 use Prim.Native.Nat.{ℕ, zero, suc}
 use mathlib.Core.Path.{_≡_, refl}
-use mathlib.Core.Bool.{false}
+use mathlib.Core.Bool.{true, false}
 use mathlib.Core.List.{List}
 use native.Mathlib.Omega.{arith}
 use lib.Dec.{eqb}
@@ -16,7 +16,7 @@ use Rattle.rules.specs.declared.facts.Facts.{Facts}
 use Rattle.rules.specs.declared.facts.Lookup.{Lookup}
 use Rattle.rules.specs.declared.manage.Order.{Order}
 use Rattle.rules.specs.declared.manage.Order.the-variants as order
-use Rattle.plan.specs.Plans.{clearsSet, orderPlan, planOf}
+use Rattle.plan.specs.Plans.{clearsSet, goesByUnit, orderPlan, planOf}
 use Rattle.plan.specs.Promises.{KindIsQueue}
 use Rattle.plan.specs.declared.Request.{Request}
 use Rattle.plan.specs.declared.Request.the-variants.{Command, Manage, Confirm}
@@ -50,3 +50,15 @@ module _ (f : Facts) (own : Pick) (x y : ℕ) where
   others-unasked next p tag m (Manage (order.UnitReset lun)) e = refl
   others-unasked next p tag m (Manage order.TargetReset) e = refl
   others-unasked next p tag m (Confirm offset complete) e = refl
+
+-- an order that goes by its unit alone looks at whether the unit is attached, and at nothing else that was looked up
+pub tasks-unasked : (s u : Lookup) (next p tag : ℕ) (m : List ℕ) (w : Request) → goesByUnit w ≡ true → s .facts .attached ≡ u .facts .attached → planOf s next p tag m w ≡ planOf u next p tag m w
+unfolding orderPlan orderCode
+tasks-unasked s u next p tag m (Command lun flags) e h = absurd (never e refl)
+tasks-unasked s u next p tag m (Manage (order.AbortTask tag2)) e h = absurd (never e refl)
+tasks-unasked s u next p tag m (Manage (order.AbortTaskSet lun)) e h = rw h
+tasks-unasked s u next p tag m (Manage (order.ClearTaskSet lun)) e h = absurd (never e refl)
+tasks-unasked s u next p tag m (Manage (order.ClearAca lun)) e h = absurd (never e refl)
+tasks-unasked s u next p tag m (Manage (order.UnitReset lun)) e h = rw h
+tasks-unasked s u next p tag m (Manage order.TargetReset) e h = refl
+tasks-unasked s u next p tag m (Confirm offset complete) e h = absurd (never e refl)

@@ -8,6 +8,7 @@ answers-are-one = record {
   tag-asked = λ _ _ _ _. determined;
   unit-asked = λ _ _ _. determined;
   clears-set = λ _ _ _. determined;
+  goes-by-unit = λ _ _ _. determined;
   refuse = λ _ _ _. determined;
   find-plan = λ _ _ _ _ _ _ _ _. determined;
   change-paths = λ _ _ _ _ _. determined;

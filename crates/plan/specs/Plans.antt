@@ -26,7 +26,7 @@ use Rattle.table.specs.Tables.{markedIn, attentionGoneIn, clearedAttentionIn, r
 use Rattle.table.specs.declared.Path as path
 use Rattle.table.specs.declared.Unit as unit
 use Rattle.rules.specs.Rules.{deciding}
-use Rattle.rules.specs.Management.{endsOf, tagOf, unitOf, isClearSet, orderCode, orderChange}
+use Rattle.rules.specs.Management.{endsOf, tagOf, unitOf, isClearSet, byUnit, orderCode, orderChange}
 use Rattle.rules.specs.declared.change.Change.{Change}
 use Rattle.rules.specs.declared.change.Change.the-variants as change
 use Rattle.rules.specs.declared.facts.Facts.{Facts}
@@ -77,6 +77,12 @@ abbrev pub clearsSet : Request → Bool
 clearsSet (Command lun flags) = false
 clearsSet (Manage o) = isClearSet o
 clearsSet (Confirm offset complete) = false
+
+-- no task is looked for, its own or another's
+abbrev pub goesByUnit : Request → Bool
+goesByUnit (Command lun flags) = false
+goesByUnit (Manage o) = byUnit o
+goesByUnit (Confirm offset complete) = false
 
 -- QUEUE CNTL
 abbrev pub kindOf : Queue → Kind

@@ -1,6 +1,6 @@
 // The plan: what a message asks, the answer to it, and what that does to the table. No table travels here.
 ghost use mathlib.Core.Path.{_≡_};
-ghost use Rattle.plan.specs.Plans.{askedOf, tagAsked, unitAsked, clearsSet, kindOf, sequelOf, planned, refusing, ruled, orderPlan, isAwaited, confirmPlan, planOf, senderAfter, pathsAfter, unitsAfter};
+ghost use Rattle.plan.specs.Plans.{askedOf, tagAsked, unitAsked, clearsSet, goesByUnit, kindOf, sequelOf, planned, refusing, ruled, orderPlan, isAwaited, confirmPlan, planOf, senderAfter, pathsAfter, unitsAfter};
 use reply::Reply;
 use rules::change::Change;
 use rules::change::SenderChange;
@@ -161,6 +161,20 @@ pub fn clears_set(w: Request) -> bool
     match w {
         Request::Command { lun: _, flags: _ } => false,
         Request::Manage(o) => rules::manage::clears_set(o),
+        Request::Confirm {
+            offset: _,
+            complete: _,
+        } => false,
+    }
+}
+
+// Whether what is asked for goes by a unit alone, so that no task is looked for.
+pub fn goes_by_unit(w: Request) -> bool
+    ensures { λ r. ⌜ r ≡ goesByUnit w ⌝ }
+{
+    match w {
+        Request::Command { lun: _, flags: _ } => false,
+        Request::Manage(o) => rules::manage::goes_by_unit(o),
         Request::Confirm {
             offset: _,
             complete: _,

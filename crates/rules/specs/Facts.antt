@@ -1,8 +1,11 @@
 -- What the rules and orders ask of the table, for the sender's place p in the path list: about its task with a tag,
 -- and about a unit.
 use Prim.Native.Nat.{ℕ}
+use mathlib.Core.Bool.{Bool, false}
 use Rattle.task.specs.Selections.{named, acaOn}
+use Rattle.task.specs.Scan.{nobody}
 use Rattle.table.specs.Tables.{pathAt, unitAt, isAttached, hasAca, ownedBy, pickOf, hasRoom}
+use Rattle.table.specs.declared.Attention.the-variants as attention
 use Rattle.table.specs.declared.Table.{Table}
 use Rattle.rules.specs.declared.facts.Facts.{Facts}
 use Rattle.rules.specs.declared.facts.Lookup.{Lookup}
@@ -22,3 +25,11 @@ factsOf t p tag lun = record {
 -- the facts, that task itself, and the map of the other paths that have a task on the unit
 unfoldable pub lookupOf : Table → ℕ → ℕ → ℕ → ℕ → Lookup
 lookupOf t p tag lun others = record { facts = factsOf t p tag lun; own = pickOf t (named p tag); others = others }
+
+-- for an order that goes by its unit alone: whether the unit is attached, and nothing of the records
+unfoldable pub unitAlone : Bool → Lookup
+unitAlone attached = record {
+  facts = record { marked = false; attention = attention.Nothing; room = false; taken = false; attached = attached; aca = false; owned = false; busy = false };
+  own = nobody;
+  others = 0;
+}

@@ -58,6 +58,16 @@ isClearSet (ClearAca lun) = false
 isClearSet (UnitReset lun) = false
 isClearSet TargetReset = false
 
+-- an order that goes by its unit alone, or by none: whether it is carried out, and what it does besides ending tasks,
+-- hangs on no task
+abbrev pub byUnit : Order → Bool
+byUnit (AbortTask tag2) = false
+byUnit (AbortTaskSet lun) = true
+byUnit (ClearTaskSet lun) = false
+byUnit (ClearAca lun) = false
+byUnit (UnitReset lun) = true
+byUnit TargetReset = true
+
 -- ---- the return code
 
 -- ABORT TASK: 00h, or 01h if there is none. CLEAR ACA: 00h where the sender owns the unit's ACA, else 20h. The

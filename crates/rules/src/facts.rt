@@ -2,7 +2,7 @@
 ghost use mathlib.Core.Path.{_≡_};
 ghost use mathlib.Core.Bool.{cond};
 ghost use Rattle.table.specs.Tables.{othersOn};
-ghost use Rattle.rules.specs.Facts.{lookupOf};
+ghost use Rattle.rules.specs.Facts.{lookupOf, unitAlone};
 use table::Attention;
 use table::Table;
 use task::scan::Pick;
@@ -55,4 +55,31 @@ pub fn look_up(t: Table, p: u8, tag: u16, lun: u8, clears: bool) -> Lookup
         busy: aca_held.found,
     };
     Lookup { facts, own, others }
+}
+
+// What an order that goes by its unit alone asks: whether the unit is attached, and nothing of the records.
+pub fn unit_alone(attached: bool) -> Lookup
+    ensures { λ r. ⌜ r ≡ unitAlone attached ⌝ }
+{
+    let task = task::no_task();
+    let own = Pick {
+        task,
+        at: 0,
+        found: false,
+    };
+    let facts = Facts {
+        marked: false,
+        attention: Attention::Nothing,
+        room: false,
+        taken: false,
+        attached,
+        aca: false,
+        owned: false,
+        busy: false,
+    };
+    Lookup {
+        facts,
+        own,
+        others: 0,
+    }
 }

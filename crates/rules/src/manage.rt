@@ -1,6 +1,6 @@
 // Management: what an order ends, which return code it gets, and what it does to paths and units.
 ghost use mathlib.Core.Path.{_≡_};
-ghost use Rattle.rules.specs.Management.{endsOf, tagOf, unitOf, isClearSet, hasUnit, carriedCode, orderCode, orderChange};
+ghost use Rattle.rules.specs.Management.{endsOf, tagOf, unitOf, isClearSet, byUnit, hasUnit, carriedCode, orderCode, orderChange};
 use crate::change::Change;
 use crate::facts::Facts;
 use task::select::Place;
@@ -69,6 +69,20 @@ pub fn clears_set(o: Order) -> bool
         Order::ClearAca(_) => false,
         Order::UnitReset(_) => false,
         Order::TargetReset => false,
+    }
+}
+
+// Whether an order goes by its unit alone: by no single task, and by nobody else's.
+pub fn goes_by_unit(o: Order) -> bool
+    ensures { λ r. ⌜ r ≡ byUnit o ⌝ }
+{
+    match o {
+        Order::AbortTask(_) => false,
+        Order::AbortTaskSet(_) => true,
+        Order::ClearTaskSet(_) => false,
+        Order::ClearAca(_) => false,
+        Order::UnitReset(_) => true,
+        Order::TargetReset => true,
     }
 }
 

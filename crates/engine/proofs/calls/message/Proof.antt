@@ -4,7 +4,7 @@ use mathlib.Core.Logic.{⊎-elim}
 use borrow.Author.Needs.{needs}
 use denote.Ref.{now}
 use Rattle.engine.specs.Calls.{carriedOut}
-use Rattle.engine.proofs.Calling.{planHeard, unread, read-by, carries-nothing, carries-out, answers, carries}
+use Rattle.engine.proofs.Calling.{planHeard, unread, read-by, read-by-unit, carries-nothing, carries-out, answers, carries}
 use Rattle.engine.proofs.calls.message.Statement.{statement}
 use Rattle.engine.proofs.calls.message.Tie as tie
 
@@ -28,6 +28,15 @@ path-of-requires c κs = search needs
 
 tag-asked-requires : tie.Need-tag-asked-requires
 tag-asked-requires c κs = search needs
+
+goes-by-unit-requires : tie.Need-goes-by-unit-requires
+goes-by-unit-requires c κs = search needs
+
+is-attached-requires : tie.Need-is-attached-requires
+is-attached-requires c κs = search needs
+
+unit-alone-requires : tie.Need-unit-alone-requires
+unit-alone-requires c κs = search needs
 
 unit-asked-requires : tie.Need-unit-asked-requires
 unit-asked-requires c κs = search needs
@@ -82,8 +91,11 @@ returns c =
     ⊎-elim
     (λ w. (w .4 ∙ sym (w .1 .given .1), unread t _ (w .4) (w .5 ∙ w .3 .ensures)))
     (λ w. (
-      w .9 ∙ sym (w .1 .given .1),
-      read-by t _ (w .9) (w .3 .ensures) (w .4 .ensures) (w .5 .ensures) (w .6 .ensures) (w .7 .ensures) (w .10 ∙ w .8 .ensures),
+      w .8 ∙ sym (w .1 .given .1),
+      ⊎-elim
+          (λ v. read-by-unit t _ (w .8) (w .3 .ensures) (w .4 .ensures) (w .5 .ensures) (v .0 .taken) (v .1 .ensures) (v .3 ∙ v .2 .ensures) (w .9 ∙ w .7 .ensures))
+          (λ v. read-by t _ (w .8) (w .3 .ensures) (v .1 .ensures) (w .4 .ensures) (v .2 .ensures) (v .4 ∙ v .3 .ensures) (w .9 ∙ w .7 .ensures))
+          (w .6 .came),
     ))
     (g .match .came) in
     let e = h .before .before .before .change-paths .ensures in
@@ -102,8 +114,11 @@ message-spec =
     refuse-requires
     enum-known-asked-2
     path-of-requires
-    tag-asked-requires
     unit-asked-requires
+    goes-by-unit-requires
+    is-attached-requires
+    unit-alone-requires
+    tag-asked-requires
     clears-set-requires
     look-up-requires
     plan-for-requires
