@@ -2,7 +2,7 @@
 --     gates      for `search`, a call that makes one test after another, under `unfolding` of its definition: what it refuses, and what comes after the last test
 --     heard-all      what comes after the last test of `heard`;        chosen      what a start picks
 --     plan-ways, step-ways, go-ways, may-ways, reset-ways, setup-ways      for `search`, the ways out of the functions so named
---     unread, read-by, read-by-unit, carries-nothing, carries-out, carries      a message: the plan for what was heard, the table after it, and the outcome
+--     unread, others-sought, none-sought, read-by, read-by-unit, carries-nothing, carries-out, carries      a message: the plan for what was heard, the table after it, and the outcome
 --     starts, finishes      the outcome, by what was asked of the table, the verdict and the step
 --     answers      the contract of a call with a reply buffer
 use Prim.Native.Nat.{ℕ, _<_, _≤_}
@@ -31,7 +31,7 @@ use Rattle.task.specs.declared.Sequel.{Sequel}
 use Rattle.task.specs.declared.select.Place.the-variants.{Anywhere}
 use Rattle.task.specs.declared.scan.Pick.{Pick}
 use Rattle.task.specs.declared.select.Selection.{Selection}
-use Rattle.task.proofs.Ways.{answered-true, answered-false}
+use Rattle.task.proofs.Ways.{never, answered-true, answered-false}
 use Rattle.task.proofs.Next.{scan-stands}
 use Rattle.table.specs.Tables.{pathOf, pathAt, unitAt, taskAt, isAttached, hasAca, pickOf, othersOn, resetAttentionIn, acaClearedIn, withPaths, withUnits, finished, resetOf}
 use Rattle.table.specs.Steps.{stepped, finishStep, finishUnits, holdersOf}
@@ -52,6 +52,8 @@ use Rattle.rules.specs.Facts.{factsOf, lookupOf, unitAlone}
 use Rattle.rules.specs.declared.facts.Lookup.{Lookup}
 use Rattle.plan.specs.Plans.{askedOf, tagAsked, unitAsked, clearsSet, goesByUnit, replyOf, refusing, planOf, pathsAfter, unitsAfter}
 use Rattle.plan.specs.declared.Request.{Request}
+use Rattle.plan.specs.declared.Request.the-variants.{Command, Manage, Confirm}
+use Rattle.rules.specs.declared.manage.Order.the-variants as order
 use Rattle.plan.specs.declared.Asked.{Asked}
 use Rattle.plan.specs.declared.Asked.the-variants.{By, Unread}
 use Rattle.plan.specs.declared.RecordChange.{RecordChange}
@@ -108,33 +110,50 @@ planHeard t m (Unread n) = refusing n
 planHeard t m (By path tag w) = planFor t m path tag w
 
 -- who else has a task on the unit is asked only where the plan goes by it
-others-alike : (t : Table) (m : List ℕ) (p tag next n u : ℕ) (b : Bool) (w : Request) → b ≡ clearsSet w
-    → planOf (lookupOf t p n u (cond b (othersOn t u p) 0)) next p tag m w ≡ planOf (lookupOf t p n u (othersOn t u p)) next p tag m w
+others-alike : (t : Table) (m : List ℕ) (p tag next : ℕ) (w : Request) → goesByUnit w ≡ false
+    → planOf (lookupOf t p (tagAsked tag w) (unitAsked w) 0) next p tag m w ≡ planOf (lookupFor t p tag w) next p tag m w
 unfolding lookupOf
-others-alike t m p tag next n u true w e = refl
-others-alike t m p tag next n u false w e = others-unasked (factsOf t p n u) _ 0 (othersOn t u p) next p tag m w (sym e)
+others-alike t m p tag next w e = others-unasked (factsOf t p (tagAsked tag w) (unitAsked w)) _ 0 (othersOn t (unitAsked w) p) next p tag m w (no-clearing w e)
+  where
+    no-clearing : (w : Request) → goesByUnit w ≡ false → clearsSet w ≡ false
+    no-clearing (Command lun flags) e = refl
+    no-clearing (Manage (order.AbortTask tag2)) e = refl
+    no-clearing (Manage (order.AbortTaskSet lun)) e = refl
+    no-clearing (Manage (order.ClearTaskSet lun)) e = absurd (never refl e)
+    no-clearing (Manage (order.ClearAca lun)) e = refl
+    no-clearing (Manage (order.UnitReset lun)) e = refl
+    no-clearing (Manage order.TargetReset) e = refl
+    no-clearing (Confirm offset complete) e = refl
 
--- nor is a task, where the plan goes by the unit alone
-unit-alike : (t : Table) (m : List ℕ) (p tag next u : ℕ) (f : Bool) (w : Request) → goesByUnit w ≡ true → f ≡ isAttached t u → u ≡ unitAsked w
-    → planOf (unitAlone f) next p tag m w ≡ planOf (lookupFor t p tag w) next p tag m w
+module _ (t : Table) (u p : ℕ) {b : Bool} {o : ℕ} where
+  pub others-sought : o ≡ othersOn t u p → b ≡ true → o ≡ cond b (othersOn t u p) 0
+  others-sought e h = e ∙ rw h
+
+  pub none-sought : o ≡ 0 → b ≡ false → o ≡ cond b (othersOn t u p) 0
+  none-sought e h = e ∙ rw h
+
+-- nor is a task of the sender's, where the plan goes by the unit alone
+unit-alike : (t : Table) (m : List ℕ) (p tag next u o : ℕ) (b f : Bool) (w : Request) → goesByUnit w ≡ true → f ≡ isAttached t u → u ≡ unitAsked w → b ≡ clearsSet w → o ≡ cond b (othersOn t u p) 0
+    → planOf (unitAlone f o) next p tag m w ≡ planOf (lookupFor t p tag w) next p tag m w
 unfolding lookupOf factsOf unitAlone
-unit-alike t m p tag next u f w y e k = tasks-unasked (unitAlone f) (lookupFor t p tag w) next p tag m w y (e ∙ ap (isAttached t) k)
+unit-alike t m p tag next u o b f w y e k h g =
+    tasks-unasked (unitAlone f o) (lookupFor t p tag w) next p tag m w y (e ∙ ap (isAttached t) k) (λ c. g ∙ rw (h, c, k))
 
 module _ (t : Table) (m : List ℕ) {a : Asked} {pl : Plan} where
   pub unread : {n : Refusal} → a ≡ Unread n → pl ≡ refusing n → pl ≡ planHeard t m a
   unfolding planHeard
   unread e h = rw e h
 
-  pub read-by : {path tag p n u : ℕ} {b : Bool} {w : Request} {s : Lookup} → a ≡ By path tag w → p ≡ pathOf t path → n ≡ tagAsked tag w → u ≡ unitAsked w → b ≡ clearsSet w
-      → s ≡ lookupOf t p n u (cond b (othersOn t u p) 0) → pl ≡ cond (ltb p 8) (planOf s (t .next) p tag m w) (refusing Codes.unknownPath) → pl ≡ planHeard t m a
+  pub read-by : {path tag p n u : ℕ} {c : Bool} {w : Request} {s : Lookup} → a ≡ By path tag w → p ≡ pathOf t path → u ≡ unitAsked w → c ≡ goesByUnit w → c ≡ false → n ≡ tagAsked tag w
+      → s ≡ lookupOf t p n u (cond false (othersOn t u p) 0) → pl ≡ cond (ltb p 8) (planOf s (t .next) p tag m w) (refusing Codes.unknownPath) → pl ≡ planHeard t m a
   unfolding planHeard planFor planAt
-  read-by {tag = tag} {w = w} e p n u b s h = h ∙ rw (e, s, others-alike t m _ tag (t .next) _ _ _ w b, n, u, p)
+  read-by {tag = tag} {w = w} e p u g y n s h = h ∙ rw (e, s, n, u, others-alike t m _ tag (t .next) w (sym g ∙ y), p)
 
   -- what an order asks that goes by its unit alone
-  pub read-by-unit : {path tag p u : ℕ} {b f : Bool} {w : Request} {s : Lookup} → a ≡ By path tag w → p ≡ pathOf t path → u ≡ unitAsked w → b ≡ goesByUnit w → b ≡ true → f ≡ isAttached t u
-      → s ≡ unitAlone f → pl ≡ cond (ltb p 8) (planOf s (t .next) p tag m w) (refusing Codes.unknownPath) → pl ≡ planHeard t m a
+  pub read-by-unit : {path tag p u o : ℕ} {b c f : Bool} {w : Request} {s : Lookup} → a ≡ By path tag w → p ≡ pathOf t path → u ≡ unitAsked w → b ≡ clearsSet w → o ≡ cond b (othersOn t u p) 0
+      → c ≡ goesByUnit w → c ≡ true → f ≡ isAttached t u → s ≡ unitAlone f o → pl ≡ cond (ltb p 8) (planOf s (t .next) p tag m w) (refusing Codes.unknownPath) → pl ≡ planHeard t m a
   unfolding planHeard planFor planAt
-  read-by-unit {tag = tag} {w = w} e p u g y f s h = h ∙ rw (e, s, unit-alike t m _ tag (t .next) _ _ w (sym g ∙ y) f u, p)
+  read-by-unit {tag = tag} {w = w} e p u b o g y f s h = h ∙ rw (e, s, unit-alike t m _ tag (t .next) _ _ _ _ w (sym g ∙ y) f u b o, p)
 
 -- the step that a plan asks for does what the plan says
 steps-so : (t : Table) (d : RecordChange) → stepped t (stepOf d) ≡ withRecords t d
@@ -231,9 +250,6 @@ module _ (aca : Aca) (lun : ℕ) {b : Bool} (e : b ≡ hasAca aca) where
   go-any h k = rw (← e, h) k
 
 pub ruleset go-ways = (go-aca, go-any)
-
-pub picks : (t : Table) (q : Selection) {s : Selection} {p : Pick} → s ≡ q → p ≡ pickOf t s → p ≡ pickOf t q
-picks t q e h = rw e at h
 
 pub chosen : (t : Table) (lun : ℕ) {u : unit.Unit} {s : Selection} {p : Pick} → u ≡ unitAt t lun → s ≡ mayGo (u .aca) lun → p ≡ pickOf t s → p ≡ choiceOn t lun
 unfolding choiceOn

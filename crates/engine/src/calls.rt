@@ -132,11 +132,15 @@ pub fn message(mut t: Table, m: &[u8], reply: &mut [u8]) -> Outcome
         Asked::By { path, tag, request } => {
             let p = t.path_of(path);
             let lun = plan::unit_asked(request);
-            let lookup = if plan::goes_by_unit(request) {
-                unit_alone(t.is_attached(lun))
+            let others = if plan::clears_set(request) {
+                t.others_on(lun, p)
             } else {
-                let named = plan::tag_asked(tag, request);
-                look_up(t, p, named, lun, plan::clears_set(request))
+                0
+            };
+            let lookup = if plan::goes_by_unit(request) {
+                unit_alone(t.is_attached(lun), others)
+            } else {
+                look_up(t, p, plan::tag_asked(tag, request), lun, false)
             };
             plan_for(lookup, t.next, p, tag, m, request)
         }

@@ -51,14 +51,16 @@ module _ (f : Facts) (own : Pick) (x y : ℕ) where
   others-unasked next p tag m (Manage order.TargetReset) e = refl
   others-unasked next p tag m (Confirm offset complete) e = refl
 
--- an order that goes by its unit alone looks at whether the unit is attached, and at nothing else that was looked up
-pub tasks-unasked : (s u : Lookup) (next p tag : ℕ) (m : List ℕ) (w : Request) → goesByUnit w ≡ true → s .facts .attached ≡ u .facts .attached → planOf s next p tag m w ≡ planOf u next p tag m w
+-- an order that goes by its unit alone looks at whether the unit is attached, CLEAR TASK SET at the other paths as well,
+-- and at nothing else that was looked up
+pub tasks-unasked : (s u : Lookup) (next p tag : ℕ) (m : List ℕ) (w : Request) → goesByUnit w ≡ true → s .facts .attached ≡ u .facts .attached → (clearsSet w ≡ true → s .others ≡ u .others)
+    → planOf s next p tag m w ≡ planOf u next p tag m w
 unfolding orderPlan orderCode
-tasks-unasked s u next p tag m (Command lun flags) e h = absurd (never e refl)
-tasks-unasked s u next p tag m (Manage (order.AbortTask tag2)) e h = absurd (never e refl)
-tasks-unasked s u next p tag m (Manage (order.AbortTaskSet lun)) e h = rw h
-tasks-unasked s u next p tag m (Manage (order.ClearTaskSet lun)) e h = absurd (never e refl)
-tasks-unasked s u next p tag m (Manage (order.ClearAca lun)) e h = absurd (never e refl)
-tasks-unasked s u next p tag m (Manage (order.UnitReset lun)) e h = rw h
-tasks-unasked s u next p tag m (Manage order.TargetReset) e h = refl
-tasks-unasked s u next p tag m (Confirm offset complete) e h = absurd (never e refl)
+tasks-unasked s u next p tag m (Command lun flags) e h k = absurd (never e refl)
+tasks-unasked s u next p tag m (Manage (order.AbortTask tag2)) e h k = absurd (never e refl)
+tasks-unasked s u next p tag m (Manage (order.AbortTaskSet lun)) e h k = rw h
+tasks-unasked s u next p tag m (Manage (order.ClearTaskSet lun)) e h k = rw (h, k refl)
+tasks-unasked s u next p tag m (Manage (order.ClearAca lun)) e h k = absurd (never e refl)
+tasks-unasked s u next p tag m (Manage (order.UnitReset lun)) e h k = rw h
+tasks-unasked s u next p tag m (Manage order.TargetReset) e h k = refl
+tasks-unasked s u next p tag m (Confirm offset complete) e h k = absurd (never e refl)

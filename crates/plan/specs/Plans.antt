@@ -78,7 +78,7 @@ clearsSet (Command lun flags) = false
 clearsSet (Manage o) = isClearSet o
 clearsSet (Confirm offset complete) = false
 
--- no task is looked for, its own or another's
+-- an order that goes by its unit alone, so that no task of the sender's is looked for
 abbrev pub goesByUnit : Request → Bool
 goesByUnit (Command lun flags) = false
 goesByUnit (Manage o) = byUnit o

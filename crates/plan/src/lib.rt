@@ -168,7 +168,7 @@ pub fn clears_set(w: Request) -> bool
     }
 }
 
-// Whether what is asked for goes by a unit alone, so that no task is looked for.
+// Whether what is asked for goes by its unit alone, so that no task of the sender's is looked for.
 pub fn goes_by_unit(w: Request) -> bool
     ensures { λ r. ⌜ r ≡ goesByUnit w ⌝ }
 {

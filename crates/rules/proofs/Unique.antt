@@ -5,7 +5,7 @@ use Rattle.rules.specs.Unique.{AnswersAreOne}
 pub answers-are-one : AnswersAreOne
 answers-are-one = record {
   look-up = λ _ _ _ _ _ _ _. determined;
-  unit-alone = λ _ _ _. determined;
+  unit-alone = λ _ _ _ _. determined;
   decide = λ _ _ _ _ _. determined;
   ends = λ _ _ _ _. determined;
   tag-of = λ _ _ _. determined;

@@ -26,10 +26,11 @@ factsOf t p tag lun = record {
 unfoldable pub lookupOf : Table → ℕ → ℕ → ℕ → ℕ → Lookup
 lookupOf t p tag lun others = record { facts = factsOf t p tag lun; own = pickOf t (named p tag); others = others }
 
--- for an order that goes by its unit alone: whether the unit is attached, and nothing of the records
-unfoldable pub unitAlone : Bool → Lookup
-unitAlone attached = record {
+-- for an order that goes by its unit alone: whether the unit is attached, and the other paths that have a task there; all
+-- else is left at none
+unfoldable pub unitAlone : Bool → ℕ → Lookup
+unitAlone attached others = record {
   facts = record { marked = false; attention = attention.Nothing; room = false; taken = false; attached = attached; aca = false; owned = false; busy = false };
   own = nobody;
-  others = 0;
+  others = others;
 }

@@ -58,12 +58,12 @@ isClearSet (ClearAca lun) = false
 isClearSet (UnitReset lun) = false
 isClearSet TargetReset = false
 
--- an order that goes by its unit alone, or by none: whether it is carried out, and what it does besides ending tasks,
--- hangs on no task
+-- an order that goes by its unit alone, or by none: its code and what it does hang on no task of the sender's and on no
+-- ACA; of the table it asks whether the unit is attached, and CLEAR TASK SET also who else has a task there
 abbrev pub byUnit : Order → Bool
 byUnit (AbortTask tag2) = false
 byUnit (AbortTaskSet lun) = true
-byUnit (ClearTaskSet lun) = false
+byUnit (ClearTaskSet lun) = true
 byUnit (ClearAca lun) = false
 byUnit (UnitReset lun) = true
 byUnit TargetReset = true

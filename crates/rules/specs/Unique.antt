@@ -14,7 +14,7 @@ use Rattle.rules.specs.declared.manage.Order.{Order}
 
 pub record AnswersAreOne : Type 0 where
   pub look-up : (t : Table) (p tag lun : ℕ) (clears : Bool) → One (lookupOf t p tag lun (cond clears (othersOn t lun p) 0))
-  pub unit-alone : (attached : Bool) → One (unitAlone attached)
+  pub unit-alone : (attached : Bool) (others : ℕ) → One (unitAlone attached others)
   pub decide : (f : Facts) (g : Flags) (m : List ℕ) → One (decision (deciding f g m))
   pub ends : (p : ℕ) (o : Order) → One (endsOf p o)
   pub tag-of : (o : Order) → One (tagOf o)

@@ -33,7 +33,8 @@ pub struct Lookup {
 }
 
 // What is asked of the table for the path at p, about its task with a tag and about a unit. Who else has a task on
-// the unit is one more pass over the records: it is asked with `clears` alone.
+// the unit is one more pass over the records: it is asked with `clears` alone. (CLEAR TASK SET asks it by itself, beside
+// unit_alone, so no call sets `clears` now.)
 pub fn look_up(t: Table, p: u8, tag: u16, lun: u8, clears: bool) -> Lookup
     ensures { λ r. ⌜ r ≡ lookupOf t p tag lun (cond clears (othersOn t lun p) 0) ⌝ }
 {
@@ -57,9 +58,10 @@ pub fn look_up(t: Table, p: u8, tag: u16, lun: u8, clears: bool) -> Lookup
     Lookup { facts, own, others }
 }
 
-// What an order that goes by its unit alone asks: whether the unit is attached, and nothing of the records.
-pub fn unit_alone(attached: bool) -> Lookup
-    ensures { λ r. ⌜ r ≡ unitAlone attached ⌝ }
+// What an order that goes by its unit alone asks: whether the unit is attached, and with CLEAR TASK SET the other paths
+// that have a task there. All else is left at none.
+pub fn unit_alone(attached: bool, others: u8) -> Lookup
+    ensures { λ r. ⌜ r ≡ unitAlone attached others ⌝ }
 {
     let task = task::no_task();
     let own = Pick {
@@ -77,9 +79,5 @@ pub fn unit_alone(attached: bool) -> Lookup
         owned: false,
         busy: false,
     };
-    Lookup {
-        facts,
-        own,
-        others: 0,
-    }
+    Lookup { facts, own, others }
 }

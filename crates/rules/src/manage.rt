@@ -72,14 +72,14 @@ pub fn clears_set(o: Order) -> bool
     }
 }
 
-// Whether an order goes by its unit alone: by no single task, and by nobody else's.
+// Whether an order goes by its unit alone, or by none: by no task of the sender's and no ACA.
 pub fn goes_by_unit(o: Order) -> bool
     ensures { λ r. ⌜ r ≡ byUnit o ⌝ }
 {
     match o {
         Order::AbortTask(_) => false,
         Order::AbortTaskSet(_) => true,
-        Order::ClearTaskSet(_) => false,
+        Order::ClearTaskSet(_) => true,
         Order::ClearAca(_) => false,
         Order::UnitReset(_) => true,
         Order::TargetReset => true,

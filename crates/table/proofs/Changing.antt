@@ -2,7 +2,7 @@
 --     bounded                  for `search`, a choice by a bound
 --     path-loop, end-loop      for `search (needs, ..)`, the turns of the loops over the paths and over the records
 --     others-loop      for `search`, the start, the bound and the end of the loop over the others; its turns are others-add and others-skip
---     aca-ways, room-ways, alter-ways, finish-ways      for `search`, the ways out of the functions on ACA, room, a record that changes, and finish
+--     aca-ways, room-ways, alter-ways      for `search`, the ways out of the functions on ACA, on room and acceptance, and on a record that changes
 use Prim.Native.Nat.{ℕ, _+_, _^_, _≤_, _<_}
 use mathlib.Core.Path.{_≡_, refl, sym, ap, ap₂, _∙_}
 use mathlib.Core.Bool.{Bool, true, false, cond, not, _&&_}
@@ -15,30 +15,28 @@ use lib.ListN.{length, getD, set, replicate}
 use lib.Seq.{set-getD}
 use borrow.Author.Tests.{lt-ltb, le-ltb, le-leb, lt-leb, not-true, not-false}
 use Rattle.task.specs.Index.{first, mapOf, mapAt}
-use Rattle.task.specs.Tasks.{noTask, isRunning, hasConfirm, awaits}
+use Rattle.task.specs.Tasks.{noTask}
 use Rattle.task.specs.Map.{isLive, lowestFree, withBit, withoutBit}
-use Rattle.task.specs.Selections.{picks, picksLive, fromOn, runningAs}
+use Rattle.task.specs.Selections.{picks, picksLive}
 use Rattle.task.specs.declared.Kind.{Kind}
 use Rattle.task.specs.declared.Sequel.{Sequel}
 use Rattle.task.specs.declared.Task.{Task}
 use Rattle.task.specs.declared.select.Selection.{Selection}
 use Rattle.task.specs.declared.select.Place.{Place}
 use Rattle.task.specs.declared.select.Place.the-variants.{Anywhere, On}
-use Rattle.task.specs.declared.scan.Pick.{Pick}
-use Rattle.task.proofs.Ways.{both, cond-below, cond-past, answered-true, answered-false, chosen}
+use Rattle.task.proofs.Ways.{cond-below, cond-past, answered-true, answered-false}
 use Rattle.task.proofs.Places.{lt-or-le, first-before, first-none, mapOf-ext}
 use Rattle.task.proofs.Lists.{mapBelow, mapBelow-ahead, mapBelow-zero, mapBelow-step, mapBelow-put, mapBelow-skip, mapBelow-all}
 use Rattle.task.proofs.Bits.{mapOf-lt}
 use Rattle.task.proofs.Loops.{mapOf-start, mapOf-add, mapOf-skip}
 use Rattle.task.proofs.Clearing.{clearBelow, clear-zero, clear-step, clear-skip, clear-ahead, clear-all}
-use Rattle.table.specs.Tables.{noPath, noUnit, taskAt, hasId, placeOf, ownedBy, acaAt, picksAt, anyLive, pickOf, lastArrival, hasRoom, withTasks, withUnits, newTask, accepted, endedBy, alteredAt, resetAttentionIn, isOtherOn, othersOn, claimedIn, acaClearedIn, claimedBy, finished, resetOf}
+use Rattle.table.specs.Tables.{noPath, noUnit, taskAt, hasId, placeOf, ownedBy, acaAt, picksAt, lastArrival, hasRoom, withTasks, withUnits, newTask, accepted, endedBy, alteredAt, resetAttentionIn, isOtherOn, othersOn, claimedIn, acaClearedIn, resetOf}
 use Rattle.table.specs.declared.Aca.{Aca}
 use Rattle.table.specs.declared.Aca.the-variants.{Clear, Owned}
 use Rattle.table.specs.declared.Path as path
 use Rattle.table.specs.declared.Unit as unit
 use Rattle.table.specs.declared.Table.{Table}
 use Rattle.table.proofs.Lists.{unmapped, past-end}
-use Rattle.table.proofs.Views.{any-found}
 
 pub ruleset bounded = (cond-below, cond-past)
 
@@ -113,11 +111,6 @@ module _ (units : List unit.Unit) {place : Place} where
 
 pub ruleset aca-ways = (claim-kept, claim-made, clear-all-units, clear-past, clear-unit)
 
--- ---- the scan finds a task where some live task is picked
-
-pub found-any : (t : Table) (s : Selection) {r : Pick} → r ≡ pickOf t s → length (t .tasks) ≡ 64 → r .found ≡ anyLive t s
-found-any t s e n = ap (λ (p : Pick). p .found) e ∙ any-found t s n
-
 -- ---- room, and what is accepted
 
 module _ (t : Table) {i : ℕ} (e : i ≡ lowestFree (t .live)) where
@@ -138,11 +131,10 @@ module _ (t : Table) {i : ℕ} (e : i ≡ lowestFree (t .live)) where
     unfolding accepted
     accept-late h l = rw (← some-record h, lt-leb _ _ l)
 
-    pub accept-put : {m : ℕ} → i < 64 → t .next ≤ lastArrival → m ≡ withBit (t .live) i
-        → record { live = m; next = t .next + 1; count = t .count; attached = t .attached; paths = t .paths; units = t .units; tasks = set (t .tasks) i (newTask t path tag unit kind sequel) }
-        ≡ accepted t path tag unit kind sequel
+    pub accept-put : {m : ℕ} {a : Task} → i < 64 → t .next ≤ lastArrival → m ≡ withBit (t .live) i → a ≡ newTask t path tag unit kind sequel
+        → record { live = m; next = t .next + 1; count = t .count; attached = t .attached; paths = t .paths; units = t .units; tasks = set (t .tasks) i a } ≡ accepted t path tag unit kind sequel
     unfolding accepted
-    accept-put h l k = rw (← some-record h, le-leb _ _ l, ← e, k)
+    accept-put h l k c = rw (← some-record h, le-leb _ _ l, ← e, k, c)
 
 pub ruleset room-ways = (no-record, some-record, accept-full, accept-late, accept-put)
 

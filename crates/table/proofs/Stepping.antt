@@ -1,7 +1,7 @@
 -- One step of the records, what a finish makes of them, and who has a task. Assumes nothing.
 --     altered-ways, step-ways      for `search`, the ways out of the functions so named, by the variant
---     finish-is-step, finish-of-none      a finish is a change of the units and a step
---     held-loop      for `search`, the turns of the loop that gathers who has a task;        held-on      the paths that have one on a unit
+--     finish-is-step, finish-of-none, finishes      a finish is a change of the units and a step: of a record, of none, and as `Table::finish` makes it
+--     held-loop      for `search`, the turns of the loop that gathers who has a task;        other-as      the paths that have one on a unit
 use Prim.Native.Nat.{ℕ, zero, suc, _+_, _^_, _≤_, _<_}
 use mathlib.Core.Path.{_≡_, refl, sym, ap, ap₂, _∙_}
 use mathlib.Core.Bool.{Bool, true, false, cond, not, _&&_, _||_, or-true, or-false, and-true, and-false}

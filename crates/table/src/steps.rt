@@ -1,5 +1,6 @@
 // One step of the records: a change that a call makes to them, carried out where they stand, in one pass over one table.
 ghost use mathlib.Core.Path.{_≡_};
+ghost use Rattle.task.specs.Tasks.{acceptedAs};
 ghost use Rattle.table.specs.Steps.{alteredBy, stepped, runsIn, finishStep, finishUnits};
 use crate::LAST_ARRIVAL;
 use crate::Table;
@@ -40,6 +41,22 @@ pub enum Step {
     },
     // Every live task that the selection picks ends: its record is wiped and its place free.
     End(Selection),
+}
+
+// A new task, waiting, under an arrival number.
+fn newcomer(arrival: u64, path: u8, tag: u16, unit: u8, kind: Kind, sequel: Sequel) -> Task
+    ensures { λ r. ⌜ r ≡ acceptedAs arrival path tag unit kind sequel ⌝ }
+{
+    Task {
+        arrival,
+        position: 0,
+        tag,
+        path,
+        unit,
+        kind,
+        phase: Phase::Waiting,
+        sequel,
+    }
 }
 
 // The task, changed.
@@ -87,16 +104,7 @@ impl Table {
                 if next > LAST_ARRIVAL {
                     return self;
                 }
-                let a = Task {
-                    arrival: next,
-                    position: 0,
-                    tag,
-                    path,
-                    unit,
-                    kind,
-                    phase: Phase::Waiting,
-                    sequel,
-                };
+                let a = newcomer(next, path, tag, unit, kind, sequel);
                 self.tasks[i] = a;
                 self.live = task::map::with_bit(self.live, i);
                 self.next = next + 1;

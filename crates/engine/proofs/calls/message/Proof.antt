@@ -4,7 +4,7 @@ use mathlib.Core.Logic.{⊎-elim}
 use borrow.Author.Needs.{needs}
 use denote.Ref.{now}
 use Rattle.engine.specs.Calls.{carriedOut}
-use Rattle.engine.proofs.Calling.{planHeard, unread, read-by, read-by-unit, carries-nothing, carries-out, answers, carries}
+use Rattle.engine.proofs.Calling.{planHeard, unread, others-sought, none-sought, read-by, read-by-unit, carries-nothing, carries-out, answers, carries}
 use Rattle.engine.proofs.calls.message.Statement.{statement}
 use Rattle.engine.proofs.calls.message.Tie as tie
 
@@ -28,6 +28,9 @@ path-of-requires c κs = search needs
 
 tag-asked-requires : tie.Need-tag-asked-requires
 tag-asked-requires c κs = search needs
+
+others-on-requires : tie.Need-others-on-requires
+others-on-requires c κs = search needs
 
 goes-by-unit-requires : tie.Need-goes-by-unit-requires
 goes-by-unit-requires c κs = search needs
@@ -90,12 +93,14 @@ returns c =
     let p : (asked ≡ g .before .heard .result) × (pl ≡ planHeard t (now (args .m)) asked) =
     ⊎-elim
     (λ w. (w .4 ∙ sym (w .1 .given .1), unread t _ (w .4) (w .5 ∙ w .3 .ensures)))
-    (λ w. (
-      w .8 ∙ sym (w .1 .given .1),
+    (λ w.
+    let o = ⊎-elim (λ v. others-sought t _ _ (v .2 ∙ v .1 .ensures) (v .0 .taken)) (λ v. none-sought t _ _ (v .1) (v .0 .left)) (w .6 .came) in
+    (
+      w .10 ∙ sym (w .1 .given .1),
       ⊎-elim
-          (λ v. read-by-unit t _ (w .8) (w .3 .ensures) (w .4 .ensures) (w .5 .ensures) (v .0 .taken) (v .1 .ensures) (v .3 ∙ v .2 .ensures) (w .9 ∙ w .7 .ensures))
-          (λ v. read-by t _ (w .8) (w .3 .ensures) (v .1 .ensures) (w .4 .ensures) (v .2 .ensures) (v .4 ∙ v .3 .ensures) (w .9 ∙ w .7 .ensures))
-          (w .6 .came),
+      (λ v. read-by-unit t _ (w .10) (w .3 .ensures) (w .4 .ensures) (w .5 .ensures) o (w .7 .ensures) (v .0 .taken) (v .1 .ensures) (v .3 ∙ v .2 .ensures) (w .11 ∙ w .9 .ensures))
+      (λ v. read-by t _ (w .10) (w .3 .ensures) (w .4 .ensures) (w .7 .ensures) (v .0 .left) (v .1 .ensures) (v .3 ∙ v .2 .ensures) (w .11 ∙ w .9 .ensures))
+      (w .8 .came),
     ))
     (g .match .came) in
     let e = h .before .before .before .change-paths .ensures in
@@ -115,11 +120,12 @@ message-spec =
     enum-known-asked-2
     path-of-requires
     unit-asked-requires
+    clears-set-requires
+    others-on-requires
     goes-by-unit-requires
     is-attached-requires
     unit-alone-requires
     tag-asked-requires
-    clears-set-requires
     look-up-requires
     plan-for-requires
     change-paths-requires

@@ -36,6 +36,9 @@ returns-2 c = search (step-ways, room-ways)
 returns-3 : tie.Need-returns-3 Inv-loop μ-loop
 returns-3 c = search (step-ways, room-ways)
 
+newcomer-requires : tie.Need-newcomer-requires Inv-loop μ-loop
+newcomer-requires c κs = search needs
+
 mul-a : tie.Need-mul-a Inv-loop μ-loop
 mul-a c = search needs
 
@@ -140,6 +143,7 @@ step-spec =
     lowest-free-requires
     returns-2
     returns-3
+    newcomer-requires
     mul-a
     element-set-from-a
     with-bit-requires
