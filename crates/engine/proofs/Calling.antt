@@ -33,7 +33,7 @@ use Rattle.task.specs.declared.scan.Pick.{Pick}
 use Rattle.task.specs.declared.select.Selection.{Selection}
 use Rattle.task.proofs.Ways.{never, answered-true, answered-false}
 use Rattle.task.proofs.Next.{scan-stands}
-use Rattle.table.specs.Tables.{pathOf, pathAt, unitAt, taskAt, isAttached, hasAca, pickOf, othersOn, resetAttentionIn, acaClearedIn, withPaths, withUnits, finished, resetOf}
+use Rattle.table.specs.Tables.{pathOf, pathAt, unitAt, taskAt, isAttached, hasAca, pickOf, othersOn, resetAttentionIn, acaClearedIn, withPaths, withUnits, finished}
 use Rattle.table.specs.Steps.{stepped, finishStep, finishUnits, holdersOf}
 use Rattle.table.specs.declared.changes.Holders.{Holders}
 use Rattle.table.specs.declared.steps.Alteration.the-variants.{Run, Restart}
@@ -81,13 +81,7 @@ module _ {A : Type 0} {b : Bool} {o : A} (x y : A) where
 pub not-answered : {b x : Bool} (r : Bool) → b ≡ x → not b ≡ r → not x ≡ r
 not-answered r e h = rw e at h
 
-pub not-found : {p q : Pick} (r : Bool) → p ≡ q → not (p .found) ≡ r → not (q .found) ≡ r
-not-found r e h = rw e at h
-
-pub is-found : {p q : Pick} (r : Bool) → p ≡ q → p .found ≡ r → q .found ≡ r
-is-found r e h = rw e at h
-
-pub ruleset gates = (stops, goes-on, not-answered, not-found, is-found, answered-true, answered-false, lt-ltb, le-ltb, eq-eqb, ne-eqb)
+pub ruleset gates = (stops, goes-on, not-answered, answered-true, answered-false, lt-ltb, le-ltb, eq-eqb, ne-eqb)
 
 -- ---- a message
 
@@ -274,10 +268,10 @@ this-status y h = rw (eq-eqb _ _ h)
 pub next-status : (y : Bool) {r : Bool} {k n : ℕ} → (k ≡ n → ⊥) → r ≡ y → r ≡ (eqb k n || y)
 next-status y h e = rw (ne-eqb _ _ h) e
 
+pub ruleset may-ways = (bad-key, good-key, this-status, next-status)
+
 pub sense-so : (x : StatusByte) (s : Sense) (tag at id : ℕ) {k : Sense} → k ≡ sentSense x s → verdict (answer.Reply (reply.Status tag x k)) at id ≡ verdict (answer.Reply (reply.Status tag x (sentSense x s))) at id
 sense-so x s tag at id e = rw e
-
-pub ruleset may-ways = (bad-key, good-key, this-status, next-status)
 
 -- the record that a finish is about holds the running task of the arrival number, or is none
 module _ (t : Table) (arrival : ℕ) where

@@ -10,7 +10,7 @@ use mathlib.Core.List.{List}
 use mathlib.Core.Logic.{⊎-elim}
 use native.Mathlib.Nat.{le-refl, le-antisymm, le-of-eq, lt-trans}
 use native.Mathlib.Omega.{arith}
-use lib.Dec.{eqb, ltb, leb}
+use lib.Dec.{eqb, leb}
 use lib.ListN.{length, getD, set, replicate}
 use lib.Seq.{set-getD}
 use borrow.Author.Tests.{lt-ltb, le-ltb, le-leb, lt-leb, not-true, not-false}
@@ -30,7 +30,7 @@ use Rattle.task.proofs.Lists.{mapBelow, mapBelow-ahead, mapBelow-zero, mapBelow
 use Rattle.task.proofs.Bits.{mapOf-lt}
 use Rattle.task.proofs.Loops.{mapOf-start, mapOf-add, mapOf-skip}
 use Rattle.task.proofs.Clearing.{clearBelow, clear-zero, clear-step, clear-skip, clear-ahead, clear-all}
-use Rattle.table.specs.Tables.{noPath, noUnit, taskAt, hasId, placeOf, ownedBy, acaAt, picksAt, lastArrival, hasRoom, withTasks, withUnits, newTask, accepted, endedBy, alteredAt, resetAttentionIn, isOtherOn, othersOn, claimedIn, acaClearedIn, resetOf}
+use Rattle.table.specs.Tables.{noPath, noUnit, taskAt, hasId, placeOf, ownedBy, acaAt, picksAt, lastArrival, hasRoom, withTasks, newTask, accepted, endedBy, alteredAt, resetAttentionIn, isOtherOn, othersOn, claimedIn, acaClearedIn, resetOf}
 use Rattle.table.specs.declared.Aca.{Aca}
 use Rattle.table.specs.declared.Aca.the-variants.{Clear, Owned}
 use Rattle.table.specs.declared.Path as path

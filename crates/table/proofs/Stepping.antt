@@ -3,8 +3,8 @@
 --     finish-is-step, finish-of-none, finishes      a finish is a change of the units and a step: of a record, of none, and as `Table::finish` makes it
 --     held-loop      for `search`, the turns of the loop that gathers who has a task;        other-as      the paths that have one on a unit
 use Prim.Native.Nat.{ℕ, zero, suc, _+_, _^_, _≤_, _<_}
-use mathlib.Core.Path.{_≡_, refl, sym, ap, ap₂, _∙_}
-use mathlib.Core.Bool.{Bool, true, false, cond, not, _&&_, _||_, or-true, or-false, and-true, and-false}
+use mathlib.Core.Path.{_≡_, refl, sym, ap₂, _∙_}
+use mathlib.Core.Bool.{Bool, true, false, not, _&&_, _||_, or-true, or-false, and-true, and-false}
 use mathlib.Core.List.{List}
 use mathlib.Core.Logic.{inl, inr}
 use native.Mathlib.Nat.{le-antisymm}
@@ -12,20 +12,19 @@ use native.Mathlib.Numerals.{add-one}
 use native.Mathlib.Omega.{arith}
 use lib.Dec.{eqb, ltb, lit<}
 use lib.ListN.{length}
-use borrow.Author.Tests.{eq-eqb, ne-eqb, eqb-true, eqb-false}
+use borrow.Author.Tests.{eqb-true, eqb-false}
 use Rattle.task.specs.Index.{someBelow, mapOf}
 use Rattle.task.specs.Map.{isLive, withBit}
 use Rattle.task.specs.Tasks.{hasConfirm, runs, restarts, awaits}
-use Rattle.task.specs.Selections.{picks, picksLive, onUnit, fromOn}
+use Rattle.task.specs.Selections.{picks, onUnit, fromOn}
 use Rattle.task.specs.declared.Kind.{Kind}
 use Rattle.task.specs.declared.Sequel.{Sequel}
 use Rattle.task.specs.declared.Task.{Task}
 use Rattle.task.specs.declared.select.Selection.{Selection}
-use Rattle.task.proofs.Ways.{either-way, answered-true, answered-false}
-use Rattle.task.proofs.Places.{mapOf-ext}
+use Rattle.task.proofs.Ways.{either-way}
 use Rattle.task.proofs.Bits.{dead-zero, is-mapOf, live-mapOf, mapOf-lt}
 use Rattle.task.proofs.Maps.{with-same, with-other, with-lt}
-use Rattle.table.specs.Tables.{taskAt, picksAt, anyLive, pickOf, isOtherOn, withUnits, accepted, endedBy, alteredAt, runsAt, finished}
+use Rattle.table.specs.Tables.{taskAt, picksAt, anyLive, isOtherOn, withUnits, accepted, endedBy, alteredAt, runsAt, finished}
 use Rattle.table.specs.Steps.{alteredBy, stepped, finishStep, finishUnits, holdsOne, holdersOf}
 use Rattle.table.specs.declared.Unit as unit
 use Rattle.table.specs.declared.Table.{Table}
