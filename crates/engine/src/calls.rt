@@ -154,6 +154,7 @@ pub fn message(mut t: Table, m: &[u8], reply: &mut [u8]) -> Outcome
     let units = t.units;
     let changed_units = plan::change_units(units, change);
     t.units = changed_units;
+    // No step where no record changes: it would copy the table twice.
     match records {
         RecordChange::Nothing => {}
         _ => t = t.step(step_of(records)),

@@ -34,11 +34,12 @@ stepped t (End s) = endedBy t s
 
 -- ---- a finish of the task a in record i: what happens to the records, and to the units
 
--- record i is live and its task a runs
+-- record i is live and its task a runs: `Tables.runsAt` by its parts
 abbrev pub runsIn : ℕ → ℕ → Task → Bool
 runsIn live i a = ltb i 64 && (isLive live i && isRunning (a .phase))
 
--- with CONFIRM it stays live and waits to be confirmed, with the bytes transferred; else it ends
+-- with CONFIRM it stays live and waits to be confirmed, with the bytes transferred; else it ends. Where it does not run
+-- there, nothing changes
 unfoldable pub finishStep : ℕ → ℕ → Task → ℕ → Step
 finishStep live i a transferred = cond (runsIn live i a) (cond (hasConfirm (a .sequel)) (Alter i (Await transferred)) (End (runningAs (a .arrival)))) Stay
 
@@ -46,7 +47,8 @@ finishStep live i a transferred = cond (runsIn live i a) (cond (hasConfirm (a .s
 unfoldable pub finishUnits : List unit.Unit → ℕ → ℕ → Task → Bool → List unit.Unit
 finishUnits units live i a failed = cond (runsIn live i a) (cond failed (claimedIn units (a .unit) (a .path)) units) units
 
--- ---- who has a live task that is picked: the map of the paths, by their places, and whether there is one
+-- ---- who has a live task that is picked: the map of the paths, by their places below 64, and whether there is such a
+-- task, which is whether the scan finds one
 
 abbrev pub holdsOne : Table → Selection → ℕ → Bool
 holdsOne t s p = someBelow 64 (λ i. picksAt t s i && eqb (taskAt t i .path) p)

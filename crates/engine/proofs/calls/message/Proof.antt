@@ -94,13 +94,12 @@ returns c =
     ⊎-elim
     (λ w. (w .4 ∙ sym (w .1 .given .1), unread t _ (w .4) (w .5 ∙ w .3 .ensures)))
     (λ w.
-    let o = ⊎-elim (λ v. others-sought t _ _ (v .2 ∙ v .1 .ensures) (v .0 .taken)) (λ v. none-sought t _ _ (v .1) (v .0 .left)) (w .6 .came) in
-    (
+    let o = ⊎-elim (λ v. others-sought t _ _ (v .2 ∙ v .1 .ensures) (v .0 .taken)) (λ v. none-sought t _ _ (v .1) (v .0 .left)) (w .6 .came) in (
       w .10 ∙ sym (w .1 .given .1),
       ⊎-elim
-      (λ v. read-by-unit t _ (w .10) (w .3 .ensures) (w .4 .ensures) (w .5 .ensures) o (w .7 .ensures) (v .0 .taken) (v .1 .ensures) (v .3 ∙ v .2 .ensures) (w .11 ∙ w .9 .ensures))
-      (λ v. read-by t _ (w .10) (w .3 .ensures) (w .4 .ensures) (w .7 .ensures) (v .0 .left) (v .1 .ensures) (v .3 ∙ v .2 .ensures) (w .11 ∙ w .9 .ensures))
-      (w .8 .came),
+          (λ v. read-by-unit t _ (w .10) (w .3 .ensures) (w .4 .ensures) (w .5 .ensures) o (w .7 .ensures) (v .0 .taken) (v .1 .ensures) (v .3 ∙ v .2 .ensures) (w .11 ∙ w .9 .ensures))
+          (λ v. read-by t _ (w .10) (w .3 .ensures) (w .4 .ensures) (w .7 .ensures) (v .0 .left) (v .1 .ensures) (v .3 ∙ v .2 .ensures) (w .11 ∙ w .9 .ensures))
+          (w .8 .came),
     ))
     (g .match .came) in
     let e = h .before .before .before .change-paths .ensures in
