@@ -1,8 +1,9 @@
 -- One step of the records, what a finish makes of them, and who has a task. Assumes nothing.
 --     altered-ways, step-ways      for `search`, the ways out of the functions so named, by the variant
 --     finish-is-step, finish-of-none, finishes      a finish is a change of the units and a step: of a record, of none, and as `Table::finish` makes it
---     held-loop      for `search`, the turns of the loop that gathers who has a task;        other-as      the paths that have one on a unit
-use Prim.Native.Nat.{ℕ, zero, suc, _+_, _^_, _≤_, _<_}
+--     held-loop      for `search`, start and end of the loop that gathers who has a task;        found-more, found-same      its turns, with those of `Gathering`
+--     running-all      the end of the loop that gathers where one runs;        other-as      the paths that have one on a unit
+use Prim.Native.Nat.{ℕ, zero, suc, _+_, _%_, _≤_, _<_}
 use mathlib.Core.Path.{_≡_, refl, sym, ap₂, _∙_}
 use mathlib.Core.Bool.{Bool, true, false, not, _&&_, _||_, or-true, or-false, and-true, and-false}
 use mathlib.Core.List.{List}
@@ -10,11 +11,10 @@ use mathlib.Core.Logic.{inl, inr}
 use native.Mathlib.Nat.{le-antisymm}
 use native.Mathlib.Numerals.{add-one}
 use native.Mathlib.Omega.{arith}
-use lib.Dec.{eqb, ltb, lit<}
+use lib.Dec.{eqb, ltb}
 use lib.ListN.{length}
-use borrow.Author.Tests.{eqb-true, eqb-false}
-use Rattle.task.specs.Index.{someBelow, mapOf}
-use Rattle.task.specs.Map.{isLive, withBit}
+use Rattle.task.specs.Index.{someBelow}
+use Rattle.task.specs.Map.{isLive}
 use Rattle.task.specs.Tasks.{hasConfirm, runs, restarts, awaits}
 use Rattle.task.specs.Selections.{picks, onUnit, fromOn}
 use Rattle.task.specs.declared.Kind.{Kind}
@@ -22,10 +22,10 @@ use Rattle.task.specs.declared.Sequel.{Sequel}
 use Rattle.task.specs.declared.Task.{Task}
 use Rattle.task.specs.declared.select.Selection.{Selection}
 use Rattle.task.proofs.Ways.{either-way}
-use Rattle.task.proofs.Bits.{dead-zero, is-mapOf, live-mapOf, mapOf-lt}
-use Rattle.task.proofs.Maps.{with-same, with-other, with-lt}
+use Rattle.task.proofs.Bits.{live-mapOf}
+use Rattle.task.proofs.Gathering.{gathered, gather-start, low-byte}
 use Rattle.table.specs.Tables.{taskAt, picksAt, anyLive, isOtherOn, withUnits, accepted, endedBy, alteredAt, runsAt, finished}
-use Rattle.table.specs.Steps.{alteredBy, stepped, finishStep, finishUnits, holdsOne, holdersOf}
+use Rattle.table.specs.Steps.{alteredBy, stepped, finishStep, finishUnits, holdsOne, holdersOf, runsPicked, runsOne, runningAmong}
 use Rattle.table.specs.declared.Unit as unit
 use Rattle.table.specs.declared.Table.{Table}
 use Rattle.table.specs.declared.steps.Alteration.{Alteration}
@@ -89,19 +89,14 @@ module _ (t : Table) (failed : Bool) (transferred : ℕ) where
 
 -- ---- who has a task that is picked
 
+-- the path of the task in record i, and its unit
+abbrev pub pathIn : Table → ℕ → ℕ
+pathIn t i = taskAt t i .path
+
+abbrev pub unitIn : Table → ℕ → ℕ
+unitIn t i = taskAt t i .unit
+
 module _ (t : Table) (s : Selection) where
-  -- record i is picked, and its task is of the path at p
-  abbrev ofPath : ℕ → ℕ → Bool
-  ofPath p i = picksAt t s i && eqb (taskAt t i .path) p
-
-  -- the map of the paths with a task that is picked below k
-  unfoldable pub heldBelow : ℕ → ℕ
-  heldBelow k = mapOf 64 (λ p. someBelow k (ofPath p))
-
-  pub held-start : 0 ≡ heldBelow 0
-  unfolding heldBelow someBelow
-  held-start = is-mapOf 64 0 (λ p. false) (lit< tt) (λ p _. dead-zero p)
-
   -- some live task below k is picked
   unfoldable pub foundBelow : ℕ → Bool
   foundBelow k = someBelow k (picksAt t s)
@@ -109,34 +104,6 @@ module _ (t : Table) (s : Selection) where
   pub found-start : false ≡ foundBelow 0
   unfolding foundBelow someBelow
   found-start = refl
-
-  module _ {m : ℕ} (k : ℕ) (e : m ≡ heldBelow k) where
-    held-lt : m < 2 ^ 64
-    unfolding heldBelow
-    held-lt = rw e (mapOf-lt 64 (λ p. someBelow k (ofPath p)))
-
-    held-bit : (p : ℕ) → p < 64 → isLive m p ≡ someBelow k (ofPath p)
-    unfolding heldBelow
-    held-bit p l = rw e (live-mapOf 64 p (λ q. someBelow k (ofPath q)) l)
-
-    module _ {b : Bool} (h : b ≡ picksAt t s k) where
-      -- the map with the task's path, at each place
-      grown : picksAt t s k ≡ true → (p : ℕ) → p < 64 → isLive (withBit m (taskAt t k .path)) p ≡ (someBelow k (ofPath p) || ofPath p k)
-      grown y p l =
-          elim (either-way (eqb (taskAt t k .path) p)) [
-            | inl q ↦ let z : taskAt t k .path ≡ p = eqb-true _ _ q in rw (y, q, z) (with-same m p l ∙ sym (or-true (someBelow k (ofPath p))))
-            | inr q ↦ rw (y, q) (with-other m (taskAt t k .path) p (λ z. eqb-false _ _ q (sym z)) ∙ held-bit p l ∙ sym (or-false (someBelow k (ofPath p))))
-          ]
-
-      pub held-more : {v : ℕ} → b ≡ true → v ≡ withBit m (taskAt t k .path) → v ≡ heldBelow (k + 1)
-      unfolding heldBelow someBelow
-      held-more y d = d ∙ is-mapOf 64 _ _ (with-lt m (taskAt t k .path) held-lt) (λ p l. rw add-one (grown (sym h ∙ y) p l))
-
-      pub held-same : {v : ℕ} → b ≡ false → v ≡ m → v ≡ heldBelow (k + 1)
-      unfolding heldBelow someBelow
-      held-same n d =
-          let z : picksAt t s k ≡ false = sym h ∙ n in
-          d ∙ is-mapOf 64 _ _ held-lt (λ p l. rw (add-one, z) (held-bit p l ∙ sym (or-false (someBelow k (ofPath p)))))
 
   module _ {f b : Bool} (k : ℕ) (e : f ≡ foundBelow k) (h : b ≡ picksAt t s k) where
     pub found-more : {v : Bool} → b ≡ true → v ≡ true → v ≡ foundBelow (k + 1)
@@ -147,11 +114,16 @@ module _ (t : Table) (s : Selection) where
     unfolding foundBelow someBelow
     found-same n d = rw (add-one, ← h, n) (d ∙ e ∙ sym (or-false (someBelow k (picksAt t s))))
 
-  pub held-all : {m k : ℕ} {f : Bool} → k ≤ 64 → 64 ≤ k → m ≡ heldBelow k → f ≡ foundBelow k → length (t .tasks) ≡ 64 → record { paths = m; found = f } ≡ holdersOf t s
-  unfolding heldBelow foundBelow holdersOf anyLive
+  pub held-all : {m k : ℕ} {f : Bool} → k ≤ 64 → 64 ≤ k → m ≡ gathered (picksAt t s) (pathIn t) k → f ≡ foundBelow k → length (t .tasks) ≡ 64 → record { paths = m; found = f } ≡ holdersOf t s
+  unfolding gathered foundBelow holdersOf anyLive
   held-all h l e g n = rw (e, g, le-antisymm h l, any-found t s n)
 
-pub ruleset held-loop = (held-start, found-start, held-more, held-same, found-more, found-same, held-all)
+  -- and where one of them runs
+  pub running-all : {m k : ℕ} → k ≤ 64 → 64 ≤ k → m ≡ gathered (runsPicked t s) (unitIn t) k → m % 256 ≡ runningAmong t s
+  unfolding gathered runningAmong
+  running-all h l e = rw (e, le-antisymm h l) (low-byte (runsOne t s))
+
+pub ruleset held-loop = (gather-start, found-start, held-all)
 
 -- ---- the paths that have a task on a unit
 

@@ -31,6 +31,7 @@ answers-are-one = record {
   finish-step = λ _ _ _ _ _ _. determined;
   finish-units = λ _ _ _ _ _ _ _. determined;
   holders = λ _ _ _ _. determined;
+  running-among = λ _ _ _ _. determined;
   others-on = λ _ _ _ _ _. determined;
   bad-list = λ _ _ _. determined;
   zero = λ _ _. determined;

@@ -1,5 +1,5 @@
--- One step of the records: what a call does to them, said as one value; what a finish leaves, as a step; and who has a
--- task of a selection.
+-- One step of the records: what a call does to them, said as one value; what a finish leaves, as a step; who has a
+-- task of a selection, and on which units one of them runs.
 use Prim.Native.Nat.{ℕ}
 use mathlib.Core.Bool.{Bool, cond, _&&_}
 use mathlib.Core.List.{List}
@@ -55,3 +55,15 @@ holdsOne t s p = someBelow 64 (λ i. picksAt t s i && eqb (taskAt t i .path) p)
 
 unfoldable pub holdersOf : Table → Selection → Holders
 holdersOf t s = record { paths = mapOf 64 (holdsOne t s); found = pickOf t s .found }
+
+-- ---- where a live task that is picked runs: the map of the units
+
+-- the task in record i runs, and is live and picked
+abbrev pub runsPicked : Table → Selection → ℕ → Bool
+runsPicked t s i = isRunning (taskAt t i .phase) && picksAt t s i
+
+abbrev pub runsOne : Table → Selection → ℕ → Bool
+runsOne t s unit = someBelow 64 (λ i. runsPicked t s i && eqb (taskAt t i .unit) unit)
+
+unfoldable pub runningAmong : Table → Selection → ℕ
+runningAmong t s = mapOf 8 (runsOne t s)

@@ -12,7 +12,7 @@ use Rattle.task.specs.declared.select.Place.{Place}
 use Rattle.table.specs.Tables.{zeroTable, pathAt, unitAt, taskAt, bitOf, isAttached, isNothing, isReset, isCleared, hasAca, ownedBy, acaAt, placeOf, pathOf, pickOf, hasRoom}
 use Rattle.table.specs.Tables.{markedIn, attentionGoneIn, resetAttentionIn, clearedAttentionIn, acaClearedIn, othersOn}
 use Rattle.table.specs.Tables.{accepted, endedBy, started, restarted, finished, resetOf}
-use Rattle.table.specs.Steps.{stepped, finishStep, finishUnits, holdersOf}
+use Rattle.table.specs.Steps.{stepped, finishStep, finishUnits, holdersOf, runningAmong}
 use Rattle.table.specs.Setup.{badList, setupTable}
 use Rattle.table.specs.declared.Attention.{Attention}
 use Rattle.table.specs.declared.Aca.{Aca}
@@ -49,6 +49,7 @@ pub record AnswersAreOne : Type 0 where
   pub finish-step : (live i : ℕ) (a : Task) (transferred : ℕ) → One (finishStep live i a transferred)
   pub finish-units : (units : List unit.Unit) (live i : ℕ) (a : Task) (failed : Bool) → One (finishUnits units live i a failed)
   pub holders : (t : Table) (s : Selection) → One (holdersOf t s)
+  pub running-among : (t : Table) (s : Selection) → One (runningAmong t s)
   pub others-on : (t : Table) (unit sender : ℕ) → One (othersOn t unit sender)
   pub bad-list : (ids : List ℕ) → One (badList ids)
   pub zero : One zeroTable

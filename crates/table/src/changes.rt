@@ -2,7 +2,9 @@
 // finished, ended and reset. These are a step of steps.rt each, finish with a change of the units; reset is none.
 ghost use mathlib.Core.Path.{_≡_};
 ghost use Rattle.table.specs.Tables.{taskAt, pickOf, hasRoom, accepted, endedBy, started, restarted, finished, resetOf, othersOn};
-ghost use Rattle.table.specs.Steps.{holdersOf};
+ghost use Rattle.task.specs.Tasks.{isRunning};
+ghost use Rattle.task.specs.Selections.{picksLive};
+ghost use Rattle.table.specs.Steps.{holdersOf, runningAmong};
 ghost use mathlib.Core.Bool.{_&&_, not};
 ghost use lib.Dec.{ltb, eqb};
 ghost use Prim.Native.Nat.{_<_, _+_, _^_};
@@ -141,6 +143,22 @@ impl Table {
         Holders { paths, found }
     }
 
+    // The map of the units on which a live task that the selection picks runs: one pass over the records.
+    pub fn running_among(self, s: Selection) -> u8
+        ensures { λ r. ⌜ r ≡ runningAmong self s ⌝ }
+    {
+        let mut units: u64 = 0;
+        let mut i: usize = 0;
+        while i < RECORDS {
+            let a = self.tasks[i];
+            if runs_picked(self.live, s, i, a) {
+                units = task::map::with_bit(units, a.unit as usize);
+            }
+            i += 1;
+        }
+        (units % 256) as u8
+    }
+
     // The map of the listed paths, other than the sender's, that have a live task on the unit.
     pub fn others_on(self, unit: u8, sender: u8) -> u8
         ensures { λ r. ⌜ r ≡ othersOn self unit sender ⌝ }
@@ -157,6 +175,17 @@ impl Table {
         }
         map
     }
+}
+
+// Whether record i is live, and the task a in it runs and is picked. Few tasks run, so that is asked first.
+fn runs_picked(live: u64, s: Selection, i: usize, a: Task) -> bool
+    ensures { λ r. ⌜ r ≡ (isRunning (a .phase) && picksLive live s i a) ⌝ }
+{
+    let phase = a.phase;
+    if !task::is_running(phase) {
+        return false;
+    }
+    task::select::picked_live(live, s, i, a)
 }
 
 // Whether the path at p loses a task: it is listed, not the sender's, and has one.

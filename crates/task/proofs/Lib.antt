@@ -6,6 +6,7 @@ pub mod Maps
 pub mod Lists
 pub mod Loops
 pub mod Clearing
+pub mod Gathering
 pub mod Selecting
 pub mod Scanning
 pub mod Next

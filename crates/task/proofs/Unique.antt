@@ -15,6 +15,7 @@ answers-are-one = record {
   is-live = λ _ _ _ _. determined;
   with-bit = λ _ _ _ _. determined;
   without-bit = λ _ _ _ _. determined;
+  gone = λ _ _ _ _. determined;
   named = λ _ _ _ _. determined;
   numbered-as = λ _ _ _ _ _. determined;
   on-unit = λ _ _ _. determined;

@@ -3,7 +3,7 @@
 use Prim.Native.Nat.{ℕ}
 use mathlib.Core.List.{List}
 use Rattle.task.specs.Tasks.{noTask, isAca, isWaiting, isRunning, isEnd, hasConfirm}
-use Rattle.task.specs.Map.{isLive, lowestFree, liveCount, withBit, withoutBit}
+use Rattle.task.specs.Map.{isLive, lowestFree, liveCount, withBit, withoutBit, gone}
 use Rattle.task.specs.Selections.{picksLive, named, numberedAs, onUnit, fromOn, acaOn, acaFromOn, runningOn, waitingOn, acaWaitingOn, runningAs}
 use Rattle.task.specs.Scan.{scan}
 use Rattle.wire.specs.Unique.{One}
@@ -25,6 +25,7 @@ pub record AnswersAreOne : Type 0 where
   pub is-live : (live i : ℕ) → One (isLive live i)
   pub with-bit : (live i : ℕ) → One (withBit live i)
   pub without-bit : (live i : ℕ) → One (withoutBit live i)
+  pub gone : (before after : ℕ) → One (gone before after)
   pub named : (path tag : ℕ) → One (named path tag)
   pub numbered-as : (arrival path tag : ℕ) → One (numberedAs arrival path tag)
   pub on-unit : (unit : ℕ) → One (onUnit unit)

@@ -1,7 +1,7 @@
 // The map of live records: 64 bits, bit i for record i.
 ghost use mathlib.Core.Path.{_≡_};
 ghost use Prim.Native.Nat.{_<_, _^_};
-ghost use Rattle.task.specs.Map.{isLive, lowestFree, liveCount, withBit, withoutBit};
+ghost use Rattle.task.specs.Map.{isLive, lowestFree, liveCount, withBit, withoutBit, gone};
 use crate::RECORDS;
 
 // The lowest place whose bit is 0, or 64.
@@ -54,4 +54,11 @@ pub fn without_bit(live: u64, i: usize) -> u64
         return live;
     }
     live & !bit(i)
+}
+
+// The places that are live before and not after.
+pub fn gone(before: u64, after: u64) -> u64
+    ensures { λ r. ⌜ r ≡ gone before after ⌝ }
+{
+    before & !after
 }

@@ -6,13 +6,15 @@ use mathlib.Core.Logic.{⊎-elim}
 use native.Mathlib.Omega.{arith}
 use lib.ListN.{length}
 use borrow.Author.Needs.{needs}
+use Rattle.task.proofs.Gathering.{gathered, gather-more, gather-same}
+use Rattle.table.specs.Tables.{picksAt}
 use Rattle.table.proofs.Lists.{unmapped}
-use Rattle.table.proofs.Stepping.{heldBelow, foundBelow, held-more, held-same, found-more, found-same, held-loop}
+use Rattle.table.proofs.Stepping.{pathIn, foundBelow, found-more, found-same, held-loop}
 use Rattle.table.proofs.Table.holders.Statement.{statement}
 use Rattle.table.proofs.Table.holders.Tie as tie
 
 abbrev Inv-loop : tie.InvT-loop
-Inv-loop s self paths₀ found₀ i₀ paths found i = (i ≤ 64) × (paths ≡ heldBelow self s i) × (found ≡ foundBelow self s i) × (length (self .tasks) ≡ 64)
+Inv-loop s self paths₀ found₀ i₀ paths found i = (i ≤ 64) × (paths ≡ gathered (picksAt self s) (pathIn self) i) × (found ≡ foundBelow self s i) × (length (self .tasks) ≡ 64)
 
 abbrev μ-loop : tie.MeasureT-loop
 μ-loop s self paths₀ found₀ i₀ paths found i = 64 - i
@@ -46,8 +48,8 @@ loop-again c =
     let loop = c .before .before .before .before .loop in
     let p = c .before .picked-live .ensures in
     ⊎-elim
-    (λ w. (omega arith, held-more _ _ _ (loop .inv .1) p (w .0 .taken) (w .3 ∙ w .2 .ensures), found-more _ _ _ (loop .inv .2) p (w .0 .taken) (w .4), loop .inv .3))
-    (λ w. (omega arith, held-same _ _ _ (loop .inv .1) p (w .0 .left) (w .1), found-same _ _ _ (loop .inv .2) p (w .0 .left) (w .2), loop .inv .3)) (c .if1 .came)
+    (λ w. (omega arith, gather-more _ _ _ (loop .inv .1) p (w .0 .taken) (w .3 ∙ w .2 .ensures), found-more _ _ _ (loop .inv .2) p (w .0 .taken) (w .4), loop .inv .3))
+    (λ w. (omega arith, gather-same _ _ _ (loop .inv .1) p (w .0 .left) (w .1), found-same _ _ _ (loop .inv .2) p (w .0 .left) (w .2), loop .inv .3)) (c .if1 .came)
 
 returns : tie.Need-returns Inv-loop μ-loop
 returns c = search held-loop
