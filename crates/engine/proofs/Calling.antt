@@ -1,9 +1,9 @@
 -- The calls: a lemma for each way out. Assumes nothing.
 --     gates      for `search`, a call that makes one test after another, under `unfolding` of its definition: what it refuses, and what comes after the last test
 --     heard-all      what comes after the last test of `heard`;        chosen      what a start picks
---     plan-ways, step-ways, go-ways, may-ways, reset-ways, setup-ways      for `search`, the ways out of the functions so named
---     unread, others-sought, none-sought, read-by, read-by-unit, carries-nothing, carries-out, carries      a message: the plan for what was heard, the table after it, and the outcome
---     starts, finishes      the outcome, by what was asked of the table, the verdict and the step
+--     plan-ways, step-ways, go-ways, may-ways, setup-ways      for `search`, the ways out of the functions so named
+--     unread, others-sought, none-sought, read-by, read-by-unit, carries-nothing, carries-out, carries-order, carries      a message: the plan for what was heard, the table after it, and the outcome
+--     starts, finishes, reset-refused, resets      the outcome, by what was asked of the table, the verdict and the step
 --     answers      the contract of a call with a reply buffer
 use Prim.Native.Nat.{ℕ, _<_, _≤_}
 use mathlib.Core.Path.{_≡_, refl, sym, ap, _∙_}
@@ -25,6 +25,7 @@ use Rattle.wire.specs.declared.message.Message.{Message}
 use Rattle.reply.specs.Calls.{leftOf}
 use Rattle.reply.specs.declared.Reply.{Reply}
 use Rattle.reply.specs.declared.Reply.the-variants as reply
+use Rattle.task.specs.Map.{gone}
 use Rattle.task.specs.Selections.{everyTask, runningOn, waitingOn, acaWaitingOn, runningAs}
 use Rattle.task.specs.declared.Kind.{Kind}
 use Rattle.task.specs.declared.Sequel.{Sequel}
@@ -32,9 +33,10 @@ use Rattle.task.specs.declared.select.Place.the-variants.{Anywhere}
 use Rattle.task.specs.declared.scan.Pick.{Pick}
 use Rattle.task.specs.declared.select.Selection.{Selection}
 use Rattle.task.proofs.Ways.{never, answered-true, answered-false}
+use Rattle.task.proofs.Maps.{gone-none}
 use Rattle.task.proofs.Next.{scan-stands}
 use Rattle.table.specs.Tables.{pathOf, pathAt, unitAt, taskAt, isAttached, hasAca, pickOf, othersOn, resetAttentionIn, acaClearedIn, withPaths, withUnits, finished}
-use Rattle.table.specs.Steps.{stepped, finishStep, finishUnits, holdersOf}
+use Rattle.table.specs.Steps.{stepped, finishStep, finishUnits, holdersOf, runningAmong}
 use Rattle.table.specs.declared.changes.Holders.{Holders}
 use Rattle.table.specs.declared.steps.Alteration.the-variants.{Run, Restart}
 use Rattle.table.specs.declared.steps.Step.{Step}
@@ -60,10 +62,11 @@ use Rattle.plan.specs.declared.RecordChange.{RecordChange}
 use Rattle.plan.specs.declared.RecordChange.the-variants as records
 use Rattle.plan.specs.declared.Plan.{Plan}
 use Rattle.plan.proofs.Answer.{the-type}
+use Rattle.plan.proofs.RecordChange as record-change
 use Rattle.plan.proofs.Promises.{others-unasked, tasks-unasked}
 use Rattle.plan.specs.declared.Answer.{Answer}
 use Rattle.plan.specs.declared.Answer.the-variants as answer
-use Rattle.engine.specs.Calls.{out, refused, heardOf, senderOf, lookupFor, planAt, planFor, withRecords, carriedOut, replyPath, carried, answeredTo, messageOf, verdict, settled, rejected, mayGo, choiceOn, startVerdict, startOf, mayFinish, sentSense, failed, finishVerdict, finishOf, totalResetOf, setupOf, replied, Answers, isAccepted}
+use Rattle.engine.specs.Calls.{out, refused, heardOf, senderOf, lookupFor, planAt, planFor, withRecords, carriedOut, replyPath, stopsFor, carried, answeredTo, messageOf, verdict, settled, closed, rejected, mayGo, choiceOn, startVerdict, startOf, mayFinish, sentSense, failed, finishVerdict, finishOf, totalResetOf, setupOf, replied, Answers, isAccepted}
 use Rattle.engine.specs.Steps.{stepOf, chosenBy, judgedBy}
 use Rattle.engine.specs.declared.Outcome.{Outcome}
 use Rattle.engine.specs.declared.calls.Verdict.{Verdict}
@@ -155,6 +158,7 @@ unfolding stepped withRecords
 steps-so t records.Nothing = refl
 steps-so t (records.Accept path tag lun kind sequel) = refl
 steps-so t (records.End s) = refl
+steps-so t (records.Complete s) = refl
 steps-so t (records.Restart place offset) = refl
 
 -- the ways of `step_of`
@@ -168,10 +172,13 @@ module _ {d : RecordChange} where
   pub ends-so : {s : Selection} → d ≡ records.End s → step.End s ≡ stepOf d
   ends-so e = rw e
 
+  pub completes-so : {s : Selection} → d ≡ records.Complete s → step.End s ≡ stepOf d
+  completes-so e = rw e
+
   pub restarts-so : {place offset : ℕ} → d ≡ records.Restart place offset → step.Alter place (Restart offset) ≡ stepOf d
   restarts-so e = rw e
 
-pub ruleset step-ways = (stays-so, accepts-so, ends-so, restarts-so)
+pub ruleset step-ways = (stays-so, accepts-so, ends-so, completes-so, restarts-so)
 
 -- the plan carried out: paths and units, then the records
 module _ (t : Table) (pl : Plan) {paths : List path.Path} {units : List unit.Unit} (e : paths ≡ pathsAfter (t .paths) (t .count) (pl .change)) (h : units ≡ unitsAfter (t .units) (pl .change)) where
@@ -186,9 +193,32 @@ module _ (t : Table) (pl : Plan) {paths : List path.Path} {units : List unit.Uni
   unfolding carriedOut
   carries-out k a = a ∙ rw (k, e, h) (steps-so _ (pl .records))
 
+  -- an order ends tasks: the units on which one of them runs are asked of that table, and then the records step
+  module _ {s : Selection} (k : pl .records ≡ records.End s) where
+    pub carries-order : {u : Table} → u ≡ stepped changed (step.End s) → u ≡ carriedOut t pl
+    carries-order a = carries-out (ends-so k) a
+
+    pub order-stops : {n : ℕ} → n ≡ runningAmong changed s → n ≡ stopsFor t (pl .records)
+    unfolding runningAmong
+    order-stops a = a ∙ rw k
+
+-- nothing else has a unit stop: what a match tells where the change is neither none nor an order's
+abbrev notOrders : List ℕ
+notOrders = 1 ∷ 3 ∷ 4 ∷ []
+
+pub none-stops : (t : Table) {d : RecordChange} → d ≡ records.Nothing → 0 ≡ stopsFor t d
+none-stops t e = rw e
+
+pub other-stops : (t : Table) (d : RecordChange) → OneOf notOrders (tagOf record-change.the-type d) → 0 ≡ stopsFor t d
+other-stops t records.Nothing k = refl
+other-stops t (records.Accept path tag lun kind sequel) k = refl
+other-stops t (records.End s) k = absurd (miss notOrders 2 tt k)
+other-stops t (records.Complete s) k = refl
+other-stops t (records.Restart place offset) k = refl
+
 carried-heard : (t : Table) (m : List ℕ) (a : Asked) → carried t (senderOf a) (planHeard t m a) ≡ answeredTo t m a
 unfolding planHeard answeredTo carriedOut withRecords
-carried-heard t m (Unread n) = refl
+carried-heard t m (Unread n) = rw (gone-none (t .live))
 carried-heard t m (By path tag w) = refl
 
 -- ---- the reply
@@ -229,10 +259,11 @@ sends buf e h = rw e h
 pub answers : {d o : Outcome} {buf left : List ℕ} → o ≡ d → left ≡ replied (o .answer) buf → Answers d buf o left
 answers e h = record { outcome = e; buffer = h ∙ rw e }
 
-pub carries : (t : Table) (m : List ℕ) (room : ℕ) {b : Bool} {a : Asked} {pl : Plan} {u : Table} {from to : ℕ} → b ≡ soundOf t → a ≡ heardOf b room m → pl ≡ planHeard t m a
-    → u ≡ carriedOut t pl → from ≡ senderOf a → to ≡ replyPath (pl .answer) from → out u (pl .answer) to ≡ messageOf t m room
+pub carries : (t : Table) (m : List ℕ) (room : ℕ) {b : Bool} {a : Asked} {pl : Plan} {u : Table} {g from to stops : ℕ} → b ≡ soundOf t → a ≡ heardOf b room m → pl ≡ planHeard t m a
+    → u ≡ carriedOut t pl → g ≡ gone (t .live) (u .live) → from ≡ senderOf a → to ≡ replyPath (pl .answer) from → stops ≡ stopsFor t (pl .records)
+    → record { table = u; answer = pl .answer; ended = g; to = to; stops = stops } ≡ messageOf t m room
 unfolding messageOf
-carries t m room s h p c f d = rw (c, d, f, p, h, s) (carried-heard t m (heardOf (soundOf t) room m))
+carries t m room s h p c g f d k = rw (g, c, d, k, f, p, h, s) (carried-heard t m (heardOf (soundOf t) room m))
 
 -- ---- start
 
@@ -300,13 +331,14 @@ module _ (t : Table) (arrival : ℕ) where
         cond-ind Left (not (mayFinish x s)) (λ _. none-left Codes.badStatus) (λ _.
         cond-ind Left (not (found .found)) (λ _. none-left Codes.notRunning) (λ f. rw (stands (not-false _ f)) (finish-is-step t (failed x) transferred (found .at))))))
 
-    pub finishes : {b : Bool} {q : Selection} {p : Pick} {from : path.Path} {v : Verdict} {l : List unit.Unit} {k : Step} {u : Table} → b ≡ soundOf t → q ≡ runningAs arrival → p ≡ pickOf t q
+    pub finishes : {b : Bool} {q : Selection} {p : Pick} {from : path.Path} {v : Verdict} {l : List unit.Unit} {k : Step} {u : Table} {n : ℕ} → b ≡ soundOf t → q ≡ runningAs arrival → p ≡ pickOf t q
         → from ≡ pathAt t (p .task .path) → v ≡ judgedBy b room x s p (from .id) → l ≡ finishUnits (t .units) (t .live) (v .place) (p .task) (failed x)
-        → k ≡ finishStep (t .live) (v .place) (p .task) transferred → u ≡ stepped (withUnits t l) k → settled v u ≡ finishOf t arrival x s transferred room
+        → k ≡ finishStep (t .live) (v .place) (p .task) transferred → u ≡ stepped (withUnits t l) k → n ≡ gone (t .live) (u .live)
+        → record { table = u; answer = v .answer; ended = n; to = v .to; stops = 0 } ≡ finishOf t arrival x s transferred room
     unfolding finishOf judgedBy finishVerdict
-    finishes h y g d e c w z =
+    finishes h y g d e c w z n =
         let j : _ ≡ judgement = e ∙ rw (h, d, g, y) judged-so in
-        rw (z, w, c, j, g, y) (ap (settled judgement) left)
+        rw (n, z, w, c, j, g, y) (ap (closed judgement t) left)
       where
         judged-so : judgedBy (soundOf t) room x s found (pathAt t (found .task .path) .id) ≡ judgement
         judged-so = refl
@@ -314,16 +346,15 @@ module _ (t : Table) (arrival : ℕ) where
 -- ---- total reset and setup
 
 module _ (t : Table) {b : Bool} (e : b ≡ soundOf t) where
-  pub reset-refused : b ≡ false → refused t Codes.notSound ≡ totalResetOf t
+  pub reset-refused : {u : Table} {g : ℕ} → b ≡ false → u ≡ t → g ≡ gone (t .live) (u .live) → record { table = u; answer = answer.Refused Codes.notSound; ended = g; to = 0; stops = 0 } ≡ totalResetOf t
   unfolding totalResetOf
-  reset-refused h = rw (← e, h)
+  reset-refused h d k = rw (← e, h) (rw (k, d, gone-none (t .live)))
 
-  pub resets : {u : Table} {l : List path.Path} {us : List unit.Unit} → b ≡ true → l ≡ resetAttentionIn (t .paths) (t .count) true → us ≡ acaClearedIn (t .units) Anywhere
-      → u ≡ stepped (withUnits (withPaths t l) us) (step.End everyTask) → length (t .tasks) ≡ 64 → out u answer.Reset 0 ≡ totalResetOf t
+  pub resets : {u : Table} {l : List path.Path} {us : List unit.Unit} {g stops : ℕ} → b ≡ true → stops ≡ runningAmong t everyTask → l ≡ resetAttentionIn (t .paths) (t .count) true → us ≡ acaClearedIn (t .units) Anywhere
+      → u ≡ stepped (withUnits (withPaths t l) us) (step.End everyTask) → g ≡ gone (t .live) (u .live) → length (t .tasks) ≡ 64
+      → record { table = u; answer = answer.Reset; ended = g; to = 0; stops = stops } ≡ totalResetOf t
   unfolding totalResetOf stepped
-  resets h p c k n = rw (k, p, c, reset-ends t n (check-is-exact t .0 (sym e ∙ h)), ← e, h)
-
-pub ruleset reset-ways = (reset-refused, resets)
+  resets h r p c k g n = rw (g, k, p, c, r, reset-ends t n (check-is-exact t .0 (sym e ∙ h)), ← e, h)
 
 module _ (ids : List ℕ) (attached first : ℕ) {u : Table} {b : Bool} (e : u ≡ setupTable ids attached first) (h : b ≡ badList ids) where
   pub setup-refused : b ≡ true → refused u Codes.badPaths ≡ setupOf ids attached first

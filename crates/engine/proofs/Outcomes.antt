@@ -12,9 +12,11 @@ use Rattle.wire.specs.declared.codes.StatusByte.{StatusByte}
 use Rattle.wire.specs.declared.codes.Sense.{Sense}
 use Rattle.reply.specs.declared.Reply.the-variants as reply
 use Rattle.task.specs.Tasks.{offsetOf, transferredOf}
-use Rattle.task.specs.Selections.{runningOn, runningAs, numberedAs}
+use Rattle.task.specs.Selections.{everyTask, runningOn, runningAs, numberedAs}
 use Rattle.task.specs.declared.scan.Pick.{Pick}
 use Rattle.wire.proofs.Table.{cond-ind}
+use Rattle.task.proofs.Maps.{gone-none}
+use Rattle.table.specs.Steps.{runningAmong}
 use Rattle.table.specs.Tables.{pathOf, pathAt, isAttached, pickOf, started, finished, resetOf}
 use Rattle.sound.specs.Sound.{soundOf}
 use Rattle.table.specs.declared.Table.{Table}
@@ -28,7 +30,7 @@ use Rattle.plan.specs.declared.RecordChange.the-variants as records
 use Rattle.plan.specs.declared.Plan.{Plan}
 use Rattle.plan.specs.declared.Answer.{Answer}
 use Rattle.plan.specs.declared.Answer.the-variants as answer
-use Rattle.engine.specs.Calls.{out, refused, heardOf, planAt, planFor, withRecords, carriedOut, carried, answeredTo, messageOf, rejected, settled, choiceOn, startVerdict, startOf, mayFinish, sentSense, runningTask, failed, finishVerdict, finishOf, totalResetOf, replied, Answers}
+use Rattle.engine.specs.Calls.{out, ending, refused, heardOf, planAt, planFor, withRecords, carriedOut, carried, answeredTo, messageOf, rejected, settled, closed, choiceOn, startVerdict, startOf, mayFinish, sentSense, runningTask, failed, finishVerdict, finishOf, totalResetOf, replied, Answers}
 use Rattle.engine.specs.declared.Outcome.{Outcome}
 use Rattle.engine.specs.declared.calls.Verdict.{Verdict}
 
@@ -45,7 +47,7 @@ module _ (P : Outcome → Type 0) (t : Table) (stops : (n : Refusal) → P (refu
     unfolding answeredTo planFor carriedOut withRecords
     asked goes (Unread n) e = stops n
     asked goes (By path tag w) e =
-        cond-ind (λ (pl : Plan). P (carried t path pl)) (ltb (pathOf t path) 8) (λ l. goes path tag w e (ltb-true _ 8 l)) (λ _. stops Codes.unknownPath)
+        cond-ind (λ (pl : Plan). P (carried t path pl)) (ltb (pathOf t path) 8) (λ l. goes path tag w e (ltb-true _ 8 l)) (λ _. rw (gone-none (t .live)) (stops Codes.unknownPath))
 
     -- where the reply buffer has room
     pub each-heard : (n : ℕ) → (Codes.replyRoom ≤ n → Carried) → P (messageOf t m n)
@@ -74,16 +76,16 @@ module _ (P : Outcome → Type 0) (t : Table) (stops : (n : Refusal) → P (refu
   -- a finish: refused, or the running task of the arrival number is finished
   module _ (arrival : ℕ) (status : StatusByte) (s : Sense) (transferred n : ℕ) where
     abbrev pub Ended : Type 0
-    Ended = P (out (finished t (pickOf t (runningAs arrival) .at) (failed status) transferred)
-        (answer.Reply (reply.Status (runningTask t arrival .tag) status (sentSense status s))) (pathAt t (runningTask t arrival .path) .id))
+    Ended = P (ending t (finished t (pickOf t (runningAs arrival) .at) (failed status) transferred)
+        (answer.Reply (reply.Status (runningTask t arrival .tag) status (sentSense status s))) (pathAt t (runningTask t arrival .path) .id) 0)
 
     -- where the reply buffer has room, and the device's status and sense key may be sent
     pub each-sent : (Codes.replyRoom ≤ n → mayFinish status s ≡ true → pickOf t (runningAs arrival) .found ≡ true → Ended)
         → P (finishOf t arrival status s transferred n)
     unfolding finishOf finishVerdict
     each-sent goes =
-        let Q : Verdict → Type 0 = λ v. P (settled v (finished t (v .place) (failed status) transferred)) in
-        let no : (n : Refusal) → Q (rejected n) = λ n. rw (finished-none t (failed status) transferred) (stops n) in
+        let Q : Verdict → Type 0 = λ v. P (closed v t (finished t (v .place) (failed status) transferred)) in
+        let no : (n : Refusal) → Q (rejected n) = λ n. rw (finished-none t (failed status) transferred, gone-none (t .live)) (stops n) in
         cond-ind Q (not (soundOf t)) (λ _. no _)
         (λ _. cond-ind Q (ltb n Codes.replyRoom) (λ _. no _)
         (λ l. cond-ind Q (not (mayFinish status s)) (λ _. no _)
@@ -92,7 +94,7 @@ module _ (P : Outcome → Type 0) (t : Table) (stops : (n : Refusal) → P (refu
     pub each-finish : (pickOf t (runningAs arrival) .found ≡ true → Ended) → P (finishOf t arrival status s transferred n)
     each-finish goes = each-sent (λ _ _. goes)
 
-  pub each-reset : P (out (resetOf t) answer.Reset 0) → P (totalResetOf t)
+  pub each-reset : P (ending t (resetOf t) answer.Reset 0 (runningAmong t everyTask)) → P (totalResetOf t)
   unfolding totalResetOf
   each-reset goes = cond-ind P (not (soundOf t)) (λ _. stops _) (λ _. goes)
 
@@ -100,7 +102,7 @@ module _ (P : Outcome → Type 0) (t : Table) (stops : (n : Refusal) → P (refu
 -- bytes transferred
 module _ (P : Plan → Type 0) (own : Pick) (p tag : ℕ) (m : List ℕ) (offset : ℕ) (complete : Bool) where
   pub each-confirm : P (planned (answer.Reply (reply.Response tag Codes.invalidField)) change.Nothing records.Nothing) → P (refusing Codes.nothingToConfirm)
-      → (isAwaited own ≡ true → complete ≡ true → P (planned (answer.Confirmed (own .task .arrival)) change.Nothing (records.End (numberedAs (own .task .arrival) p tag))))
+      → (isAwaited own ≡ true → complete ≡ true → P (planned (answer.Confirmed (own .task .arrival)) change.Nothing (records.Complete (numberedAs (own .task .arrival) p tag))))
       → (isAwaited own ≡ true → complete ≡ false → offset ≤ transferredOf (own .task)
       → P (planned (answer.Restarted (own .task .arrival)) change.Nothing (records.Restart (own .at) offset)))
       → P (confirmPlan own p tag m offset complete)

@@ -16,12 +16,14 @@ use Rattle.wire.specs.declared.codes.Sense.{Sense}
 use Rattle.reply.specs.Calls.{leftOf}
 use Rattle.reply.specs.declared.Reply.{Reply}
 use Rattle.reply.specs.declared.Reply.the-variants as reply
+use Rattle.task.specs.Map.{gone}
 use Rattle.task.specs.Tasks.{offsetOf}
-use Rattle.task.specs.Selections.{runningOn, waitingOn, acaWaitingOn, runningAs}
+use Rattle.task.specs.Selections.{everyTask, runningOn, waitingOn, acaWaitingOn, runningAs}
 use Rattle.task.specs.declared.Task.{Task}
 use Rattle.task.specs.declared.scan.Pick.{Pick}
 use Rattle.task.specs.declared.select.Selection.{Selection}
 use Rattle.table.specs.Tables.{pathOf, pathAt, unitAt, isAttached, hasAca, pickOf, othersOn, accepted, endedBy, started, restarted, finished, resetOf}
+use Rattle.table.specs.Steps.{runningAmong}
 use Rattle.table.specs.Setup.{badList, setupTable}
 use Rattle.sound.specs.Sound.{soundOf}
 use Rattle.table.specs.declared.Table.{Table}
@@ -41,10 +43,16 @@ use Rattle.plan.specs.declared.Answer.the-variants as answer
 use Rattle.engine.specs.declared.Outcome.{Outcome}
 use Rattle.engine.specs.declared.calls.Verdict.{Verdict}
 
--- ---- an outcome: the table, the answer, and the id of the path that the reply goes to, 0 with no reply
+-- ---- an outcome: the table, the answer, the map of the records whose commands this call ended, the id of the path that the reply goes to, 0 with no reply, and
+-- the map of the units whose device has to stop
 
+-- nothing was ended
 abbrev pub out : Table → Answer → ℕ → Outcome
-out t a to = record { table = t; answer = a; to = to }
+out t a to = record { table = t; answer = a; ended = 0; to = to; stops = 0 }
+
+-- t is the table that was handed in, u the next one: what was live and is no more was ended
+abbrev pub ending : Table → Table → Answer → ℕ → ℕ → Outcome
+ending t u a to stops = record { table = u; answer = a; ended = gone (t .live) (u .live); to = to; stops = stops }
 
 abbrev pub refused : Table → Refusal → Outcome
 refused t n = out t (answer.Refused n) 0
@@ -88,6 +96,7 @@ unfoldable pub withRecords : Table → RecordChange → Table
 withRecords t records.Nothing = t
 withRecords t (records.Accept path tag lun kind confirm) = accepted t path tag lun kind confirm
 withRecords t (records.End s) = endedBy t s
+withRecords t (records.Complete s) = endedBy t s
 withRecords t (records.Restart place offset) = restarted t place offset
 
 unfoldable pub carriedOut : Table → Plan → Table
@@ -101,8 +110,16 @@ pathFor path (some r) = path
 abbrev pub replyPath : Answer → ℕ → ℕ
 replyPath a path = pathFor path (replyOf a)
 
+-- the units that have to stop: those on which a task runs that an order ends. What a confirmation ends does not run
+abbrev pub stopsFor : Table → RecordChange → ℕ
+stopsFor t records.Nothing = 0
+stopsFor t (records.Accept path tag lun kind sequel) = 0
+stopsFor t (records.End s) = runningAmong t s
+stopsFor t (records.Complete s) = 0
+stopsFor t (records.Restart place offset) = 0
+
 abbrev pub carried : Table → ℕ → Plan → Outcome
-carried t path pl = out (carriedOut t pl) (pl .answer) (replyPath (pl .answer) path)
+carried t path pl = ending t (carriedOut t pl) (pl .answer) (replyPath (pl .answer) path) (stopsFor t (pl .records))
 
 unfoldable pub answeredTo : Table → List ℕ → Asked → Outcome
 answeredTo t m (Unread n) = refused t n
@@ -122,8 +139,12 @@ verdict a place to = record { answer = a; place = place; to = to }
 abbrev pub rejected : Refusal → Verdict
 rejected n = verdict (answer.Refused n) 64 0
 
+-- a start ends nothing; what a finish ends has finished, and nothing has to stop
 abbrev pub settled : Verdict → Table → Outcome
 settled v t = out t (v .answer) (v .to)
+
+abbrev pub closed : Verdict → Table → Table → Outcome
+closed v t u = ending t u (v .answer) (v .to) 0
 
 -- start, for a unit with nothing running: 13, 6, 7, 8. Under ACA only the ACA task may go
 abbrev pub mayGo : Aca → ℕ → Selection
@@ -177,11 +198,11 @@ finishVerdict t arrival status s n =
 -- the task ends, or with CONFIRM waits to be confirmed, with the bytes transferred
 unfoldable pub finishOf : Table → ℕ → StatusByte → Sense → ℕ → ℕ → Outcome
 finishOf t arrival status s transferred n =
-    settled (finishVerdict t arrival status s n) (finished t (finishVerdict t arrival status s n .place) (failed status) transferred)
+    closed (finishVerdict t arrival status s n) t (finished t (finishVerdict t arrival status s n .place) (failed status) transferred)
 
--- total reset: 13 only
+-- total reset: 13 only. Every unit on which a task runs has to stop
 unfoldable pub totalResetOf : Table → Outcome
-totalResetOf t = cond (not (soundOf t)) (refused t Codes.notSound) (out (resetOf t) answer.Reset 0)
+totalResetOf t = cond (not (soundOf t)) (refused t Codes.notSound) (ending t (resetOf t) answer.Reset 0 (runningAmong t everyTask))
 
 -- setup: 11, with the all-zero table
 unfoldable pub setupOf : List ℕ → ℕ → ℕ → Outcome

@@ -22,6 +22,7 @@ abbrev pub stepOf : RecordChange → Step
 stepOf records.Nothing = step.Stay
 stepOf (records.Accept path tag lun kind sequel) = step.Accept path tag lun kind sequel
 stepOf (records.End s) = step.End s
+stepOf (records.Complete s) = step.End s
 stepOf (records.Restart place offset) = step.Alter place (Restart offset)
 
 -- start: 13, 6, 7, 8, by whether the table is sound, the unit attached and busy, and the task that may go next

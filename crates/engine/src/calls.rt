@@ -114,6 +114,7 @@ fn step_of(r: RecordChange) -> Step
             sequel,
         },
         RecordChange::End(s) => Step::End(s),
+        RecordChange::Complete(s) => Step::End(s),
         RecordChange::Restart { place, offset } => Step::Alter {
             place,
             by: Alteration::Restart(offset),
@@ -154,9 +155,15 @@ pub fn message(mut t: Table, m: &[u8], reply: &mut [u8]) -> Outcome
     let units = t.units;
     let changed_units = plan::change_units(units, change);
     t.units = changed_units;
-    // No step where no record changes: it would copy the table twice.
+    let before = t.live;
+    let mut stops: u8 = 0;
+    // No step where no record changes: it would copy the table twice. Only what an order ends may run, and has to stop.
     match records {
         RecordChange::Nothing => {}
+        RecordChange::End(s) => {
+            stops = t.running_among(s);
+            t = t.step(Step::End(s));
+        }
         _ => t = t.step(step_of(records)),
     }
     // The reply goes by a copy of the answer, so that the outcome is made where it is handed back.
@@ -165,7 +172,9 @@ pub fn message(mut t: Table, m: &[u8], reply: &mut [u8]) -> Outcome
     Outcome {
         table: t,
         answer,
+        ended: task::map::gone(before, t.live),
         to: reply_path(answer, sender_of(asked)),
+        stops,
     }
 }
 
@@ -243,7 +252,9 @@ pub fn start(mut t: Table, unit: u8) -> Outcome
     Outcome {
         table: t,
         answer,
+        ended: 0,
         to: v.to,
+        stops: 0,
     }
 }
 
@@ -335,13 +346,16 @@ pub fn finish(
     let units = t.units;
     let claimed = finish_units(units, t.live, v.place, a, failed);
     t.units = claimed;
-    t = t.step(finish_step(t.live, v.place, a, transferred));
+    let before = t.live;
+    t = t.step(finish_step(before, v.place, a, transferred));
     let said = v.answer;
     reply_to(said, reply);
     Outcome {
         table: t,
         answer,
+        ended: task::map::gone(before, t.live),
         to: v.to,
+        stops: 0,
     }
 }
 
@@ -350,7 +364,10 @@ pub fn total_reset(mut t: Table) -> Outcome
     ensures { λ o. ⌜ TotalResetContract t o ⌝ }
 {
     let mut answer = Answer::Refused(Refusal::NOT_SOUND);
+    let before = t.live;
+    let mut stops: u8 = 0;
     if is_sound(t) {
+        stops = t.running_among(Selection::ALL);
         let paths = t.paths;
         let reset = table::paths::give_reset_attention(paths, t.count, true);
         t.paths = reset;
@@ -363,7 +380,9 @@ pub fn total_reset(mut t: Table) -> Outcome
     Outcome {
         table: t,
         answer,
+        ended: task::map::gone(before, t.live),
         to: 0,
+        stops,
     }
 }
 
@@ -379,7 +398,9 @@ pub fn setup(ids: &[u32], attached: u8, first: u64) -> Outcome
     Outcome {
         table: t,
         answer,
+        ended: 0,
         to: 0,
+        stops: 0,
     }
 }
 

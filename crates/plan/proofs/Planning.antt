@@ -162,7 +162,7 @@ module _ (own : Pick) (p tag : ℕ) (m : List ℕ) (offset : ℕ) (complete : Bo
 
     module _ (i : not w ≡ false) where
       pub completes : {s : Selection} → complete ≡ true → s ≡ numberedAs (own .task .arrival) p tag
-          → planned (answer.Confirmed (own .task .arrival)) change.Nothing (records.End s) ≡ confirmPlan own p tag m offset complete
+          → planned (answer.Confirmed (own .task .arrival)) change.Nothing (records.Complete s) ≡ confirmPlan own p tag m offset complete
       unfolding confirmPlan
       completes j k = rw (k, ← e, h, ← a, i, j)
 

@@ -141,7 +141,7 @@ unfoldable pub confirmPlan : Pick → ℕ → ℕ → List ℕ → ℕ → Bool 
 confirmPlan own p tag m offset complete =
     cond (reservedSet m) (planned (answer.Reply (reply.Response tag Codes.invalidField)) change.Nothing records.Nothing)
     (cond (not (isAwaited own)) (refusing Codes.nothingToConfirm)
-    (cond complete (planned (answer.Confirmed (own .task .arrival)) change.Nothing (records.End (numberedAs (own .task .arrival) p tag)))
+    (cond complete (planned (answer.Confirmed (own .task .arrival)) change.Nothing (records.Complete (numberedAs (own .task .arrival) p tag)))
     (cond (ltb (transferredOf (own .task)) offset) (planned (answer.Reply (reply.Response tag Codes.invalidField)) change.Nothing records.Nothing)
     (planned (answer.Restarted (own .task .arrival)) change.Nothing (records.Restart (own .at) offset)))))
 

@@ -53,8 +53,10 @@ pub enum RecordChange {
         kind: Kind,
         sequel: Sequel,
     },
-    // An order, or a confirmation, ends all tasks of a selection.
+    // An order ends all tasks of a selection.
     End(Selection),
+    // A confirmation ends the task of a selection, which waits to be confirmed.
+    Complete(Selection),
     // The task in a record waits again, to start at an offset.
     Restart {
         place: usize,
@@ -315,7 +317,7 @@ fn plan_confirm(own: Pick, p: u8, tag: u16, m: &[u8], offset: u32, complete: boo
         return Plan {
             answer: Answer::Confirmed(arrival),
             change: Change::Nothing,
-            records: RecordChange::End(Selection::numbered_as(arrival, p, tag)),
+            records: RecordChange::Complete(Selection::numbered_as(arrival, p, tag)),
         };
     }
     if offset as u64 > task.position {

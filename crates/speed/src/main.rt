@@ -44,7 +44,8 @@ fn send(r: Run, m: &[u8], reply: &mut [u8; 64]) -> Run {
     let o = message(r.table, m, reply);
     let a = o.answer;
     let table = o.table;
-    let tally = tally::add(r.tally, a, reply);
+    let answered = tally::add(r.tally, a, reply);
+    let tally = tally::add_ended(answered, o.ended, o.stops);
     Run { table, tally }
 }
 

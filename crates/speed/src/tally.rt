@@ -1,7 +1,9 @@
-// How many messages were answered in each of the four ways.
+// How many messages were answered in each of the four ways, how many commands they ended, and how often a unit had to
+// stop.
 use libc::STDOUT_FILENO;
 use plan::Answer;
 use std::num::wrapping_add_u64;
+use task::map::live_count;
 use wire::codes::ReturnCode;
 
 pub struct Tally {
@@ -9,6 +11,8 @@ pub struct Tally {
     pub done: u64,
     pub overlapped: u64,
     pub not_found: u64,
+    pub ended: u64,
+    pub stopped: u64,
 }
 
 pub(crate) fn empty() -> Tally {
@@ -17,6 +21,8 @@ pub(crate) fn empty() -> Tally {
         done: 0,
         overlapped: 0,
         not_found: 0,
+        ended: 0,
+        stopped: 0,
     }
 }
 
@@ -55,16 +61,27 @@ pub(crate) fn add(t: Tally, a: Answer, reply: &[u8; 64]) -> Tally {
     }
 }
 
+// What a message ended more. The two maps count, so that no compiler can leave them out.
+pub(crate) fn add_ended(t: Tally, ended: u64, stops: u8) -> Tally {
+    Tally {
+        ended: wrapping_add_u64(t.ended, live_count(ended) as u64),
+        stopped: wrapping_add_u64(t.stopped, live_count(stops as u64) as u64),
+        ..t
+    }
+}
+
 // A word, and the number behind it.
 pub(crate) fn say(word: &[u8], n: u64) {
     io::write_all(STDOUT_FILENO, word);
     io::print_decimal(STDOUT_FILENO, n);
 }
 
-// The four numbers.
+// The numbers.
 pub(crate) fn say_all(t: Tally) {
     say(b"accepted ", t.accepted);
     say(b" 00h ", t.done);
     say(b" 04h ", t.overlapped);
     say(b" 01h ", t.not_found);
+    say(b" ended ", t.ended);
+    say(b" stopped ", t.stopped);
 }

@@ -1,16 +1,17 @@
--- Laws of the map of live records: a bit set or cleared, the lowest free place. Assumes nothing.
+-- Laws of the map of live records: a bit set or cleared, the lowest free place, what is live no more.
+-- Assumes nothing.
 use Prim.Native.Nat.{ℕ, _-_, _^_, _≤_, _<_}
-use mathlib.Core.Path.{_≡_, refl, ap, _∙_}
+use mathlib.Core.Path.{_≡_, refl, sym, ap, _∙_}
 use mathlib.Core.Bool.{Bool, true, false, not, _||_, _&&_, or-true, or-false, and-true, and-false}
 use native.Mathlib.Omega.{arith}
-use lib.Dec.{ltb}
+use lib.Dec.{ltb, lit<}
 use lib.Pow.{pow-lt}
 use lib.Bits.{or-lt, and-le-l}
 use borrow.Author.Tests.{lt-ltb, ltb-true, not-true}
-use Rattle.task.specs.Map.{isLive, isFree, lowestFree, withBit, withoutBit}
+use Rattle.task.specs.Map.{isLive, isFree, lowestFree, withBit, withoutBit, gone}
 use Rattle.wire.proofs.Table.{cond-ind}
 use Rattle.task.proofs.Places.{first-picks}
-use Rattle.task.proofs.Bits.{live-and, live-or, live-not, live-pow-same, live-pow-other}
+use Rattle.task.proofs.Bits.{dead-zero, live-and, live-or, live-not, live-pow-same, live-pow-other, live-mapOf, is-mapOf}
 
 -- ---- a bit set
 
@@ -59,3 +60,18 @@ without-le live i = cond-ind (λ (m : ℕ). m ≤ live) (ltb i 64) (λ _. and-le
 pub lowest-free : (live : ℕ) → lowestFree live < 64 → isLive live (lowestFree live) ≡ false
 unfolding lowestFree
 lowest-free live l = not-true _ (first-picks 64 (isFree live) l)
+
+-- ---- what is live no more
+
+pub gone-at : (before after i : ℕ) → i < 64 → isLive (gone before after) i ≡ (isLive before i && not (isLive after i))
+unfolding gone
+gone-at before after i l = live-mapOf 64 i (λ j. isLive before j && isFree after j) l
+
+-- where the map stays nothing is gone
+pub gone-none : (live : ℕ) → gone live live ≡ 0
+unfolding gone
+gone-none live = sym (is-mapOf 64 0 (λ i. isLive live i && isFree live i) (lit< tt) (λ i _. dead-zero i ∙ sym (not-both (isLive live i))))
+  where
+    not-both : (b : Bool) → (b && not b) ≡ false
+    not-both true = refl
+    not-both false = refl

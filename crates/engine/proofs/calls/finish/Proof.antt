@@ -34,16 +34,19 @@ step-requires c κs = search needs
 reply-to-requires : tie.Need-reply-to-requires
 reply-to-requires c κs = search needs
 
+gone-requires : tie.Need-gone-requires
+gone-requires c κs = search needs
+
 same-length : tie.Need-same-length
 same-length c = search needs
 
 returns : tie.Need-returns
 returns c =
-    let h = c .before .before .before .before in
+    let h = c .before .before .before .before .before in
     let j = h .before .before .before .before .before in
     let k = j .before .before in
     let l = k .before .before in
-    answers (finishes _ _ _ _ _ _ (l .before .before .is-sound .ensures) (l .before .running-as .ensures) (l .pick .ensures) (j .before .path-at .ensures) (j .judge .ensures) (h .before .before .finish-units .ensures) (h .before .finish-step .ensures) (h .step .ensures)) (c .before .before .reply-to .ensures)
+    answers (finishes _ _ _ _ _ _ (l .before .before .is-sound .ensures) (l .before .running-as .ensures) (l .pick .ensures) (j .before .path-at .ensures) (j .judge .ensures) (h .before .before .finish-units .ensures) (h .before .finish-step .ensures) (h .step .ensures) (c .gone .ensures)) (c .before .before .before .reply-to .ensures)
 
 pub finish-spec : {M : Type 1} → statement M
 finish-spec =
@@ -59,5 +62,6 @@ finish-spec =
     finish-step-requires
     step-requires
     reply-to-requires
+    gone-requires
     same-length
     returns)

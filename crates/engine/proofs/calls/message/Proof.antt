@@ -3,8 +3,8 @@ use mathlib.Core.Path.{_≡_, sym, _∙_}
 use mathlib.Core.Logic.{⊎-elim}
 use borrow.Author.Needs.{needs}
 use denote.Ref.{now}
-use Rattle.engine.specs.Calls.{carriedOut}
-use Rattle.engine.proofs.Calling.{planHeard, unread, others-sought, none-sought, read-by, read-by-unit, carries-nothing, carries-out, answers, carries}
+use Rattle.engine.specs.Calls.{stopsFor, carriedOut}
+use Rattle.engine.proofs.Calling.{planHeard, unread, others-sought, none-sought, read-by, read-by-unit, carries-nothing, carries-out, carries-order, order-stops, none-stops, other-stops, answers, carries}
 use Rattle.engine.proofs.calls.message.Statement.{statement}
 use Rattle.engine.proofs.calls.message.Tie as tie
 
@@ -26,8 +26,11 @@ enum-known-asked-2 c = search needs
 path-of-requires : tie.Need-path-of-requires
 path-of-requires c κs = search needs
 
-tag-asked-requires : tie.Need-tag-asked-requires
-tag-asked-requires c κs = search needs
+unit-asked-requires : tie.Need-unit-asked-requires
+unit-asked-requires c κs = search needs
+
+clears-set-requires : tie.Need-clears-set-requires
+clears-set-requires c κs = search needs
 
 others-on-requires : tie.Need-others-on-requires
 others-on-requires c κs = search needs
@@ -41,11 +44,8 @@ is-attached-requires c κs = search needs
 unit-alone-requires : tie.Need-unit-alone-requires
 unit-alone-requires c κs = search needs
 
-unit-asked-requires : tie.Need-unit-asked-requires
-unit-asked-requires c κs = search needs
-
-clears-set-requires : tie.Need-clears-set-requires
-clears-set-requires c κs = search needs
+tag-asked-requires : tie.Need-tag-asked-requires
+tag-asked-requires c κs = search needs
 
 look-up-requires : tie.Need-look-up-requires
 look-up-requires c κs = search needs
@@ -62,14 +62,26 @@ change-units-requires c κs = search needs
 enum-told : tie.Need-enum-told
 enum-told c = search needs
 
-step-of-requires : tie.Need-step-of-requires
-step-of-requires c κs = search needs
+enum-known-records : tie.Need-enum-known-records
+enum-known-records c = search needs
+
+running-among-requires : tie.Need-running-among-requires
+running-among-requires c κs = search needs
 
 step-requires : tie.Need-step-requires
 step-requires c κs = search needs
 
+step-of-requires : tie.Need-step-of-requires
+step-of-requires c κs = search needs
+
+step-requires-2 : tie.Need-step-requires-2
+step-requires-2 c κs = search needs
+
 reply-to-requires : tie.Need-reply-to-requires
 reply-to-requires c κs = search needs
+
+gone-requires : tie.Need-gone-requires
+gone-requires c κs = search needs
 
 sender-of-requires : tie.Need-sender-of-requires
 sender-of-requires c κs = search needs
@@ -83,7 +95,7 @@ same-length c = search needs
 returns : tie.Need-returns
 returns c =
     -- h: where the ways of the change of the records meet; g: where the ways to the plan meet
-    let h = c .before .before .before .before .before .before in
+    let h = c .before .before .before .before .before .before .before in
     let g = h .before .before .before .before .before in
     let s = g .before .before in
     let args = s .before .before .before .args in
@@ -104,9 +116,12 @@ returns c =
     (g .match .came) in
     let e = h .before .before .before .change-paths .ensures in
     let f = h .before .change-units .ensures in
-    let u : h .match2 .t ≡ carriedOut t pl =
-    ⊎-elim (λ w. carries-nothing t pl e f (w .1 .given .1) (w .2)) (λ w. carries-out t pl e f (w .1 .ensures) (w .3 ∙ w .2 .ensures)) (h .match2 .came) in
-    answers (carries t _ _ (s .is-sound .ensures) (p .0 ∙ g .before .heard .ensures) (p .1) u (c .before .sender-of .ensures) (c .reply-path .ensures)) (c .before .before .before .before .reply-to .ensures)
+    let u : (h .match2 .t ≡ carriedOut t pl) × (h .match2 .stops ≡ stopsFor t (pl .records)) =
+    ⊎-elim (λ w. (carries-nothing t pl e f (w .1 .given .1) (w .2), w .3 ∙ none-stops t (w .1 .given .1)))
+    (⊎-elim
+    (λ w. (carries-order t pl e f (w .1 .given .1) (w .5 ∙ w .4 .ensures), order-stops t pl e f (w .1 .given .1) (w .6 ∙ w .3 .ensures)))
+    (λ w. (carries-out t pl e f (w .1 .ensures) (w .3 ∙ w .2 .ensures), w .4 ∙ other-stops t (pl .records) (w .0 .keys3)))) (h .match2 .came) in
+    answers (carries t _ _ (s .is-sound .ensures) (p .0 ∙ g .before .heard .ensures) (p .1) (u .0) (c .before .before .gone .ensures) (c .before .sender-of .ensures) (c .reply-path .ensures) (u .1)) (c .before .before .before .before .before .reply-to .ensures)
 
 pub message-spec : {M : Type 1} → statement M
 message-spec =
@@ -130,9 +145,13 @@ message-spec =
     change-paths-requires
     change-units-requires
     enum-told
-    step-of-requires
+    enum-known-records
+    running-among-requires
     step-requires
+    step-of-requires
+    step-requires-2
     reply-to-requires
+    gone-requires
     sender-of-requires
     reply-path-requires
     same-length

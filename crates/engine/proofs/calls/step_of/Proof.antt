@@ -16,6 +16,9 @@ enum-known-r-2 c = search needs
 enum-known-r-3 : tie.Need-enum-known-r-3
 enum-known-r-3 c = search needs
 
+enum-known-r-4 : tie.Need-enum-known-r-4
+enum-known-r-4 c = search needs
+
 returns : tie.Need-returns
 returns c = search needs
 
@@ -28,6 +31,9 @@ returns-3 c = search step-ways
 returns-4 : tie.Need-returns-4
 returns-4 c = search step-ways
 
+returns-5 : tie.Need-returns-5
+returns-5 c = search step-ways
+
 pub step-of-spec : {M : Type 1} → statement M
 step-of-spec =
     tie.close
@@ -36,7 +42,9 @@ step-of-spec =
     enum-known-r
     enum-known-r-2
     enum-known-r-3
+    enum-known-r-4
     returns
     returns-2
     returns-3
-    returns-4)
+    returns-4
+    returns-5)
