@@ -53,6 +53,7 @@ abbrev Spares : ℕ → Task → RecordChange → Type 0
 Spares i a records.Nothing = Unit {0}
 Spares i a (records.Accept path tag lun kind sequel) = Unit {0}
 Spares i a (records.End s) = picks s a ≡ false
+Spares i a (records.Complete s) = picks s a ≡ false
 Spares i a (records.Restart place offset) = i ≡ place → ⊥
 
 module _ (i : ℕ) (a : Task) (l : i < 64) where
@@ -72,6 +73,7 @@ module _ (i : ℕ) (a : Task) (l : i < 64) where
     records-leave c records.Nothing s = parts-leave c
     records-leave c (records.Accept path tag lun kind sequel) s = accept-leaves (withParts t c) path tag lun kind sequel (parts-leave c)
     records-leave c (records.End ended) s = same-at (endedBy t ended) _ _ i ∙ ended-to t ended h l e s
+    records-leave c (records.Complete ended) s = same-at (endedBy t ended) _ _ i ∙ ended-to t ended h l e s
     records-leave c (records.Restart place offset) s = altered-other (withParts t c) place _ i s ∙ parts-leave c
 
     plan-leaves : (pl : Plan) → Spares i a (pl .records) → Holds i a (carriedOut t pl)

@@ -72,7 +72,7 @@ EngineAgrees = (ids : List ℕ) (attached first : ℕ) (evs : List Event) → fi
 -- ---- the engine's outcome, with one thing wrong
 
 abbrev pub withTable : Outcome → Table → Outcome
-withTable o t = out t (o .answer) (o .to)
+withTable o t = record { table = t; answer = o .answer; ended = o .ended; to = o .to; stops = o .stops }
 
 -- the task with a tag of every path below p is ended
 unfoldable pub endedByTag : ℕ → Table → ℕ → Table

@@ -3,5 +3,6 @@
 pub mod Trace
 pub mod Ledger
 pub mod Demand
+pub mod Ended
 pub mod Drives
 pub mod TwoHosts
