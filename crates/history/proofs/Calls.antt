@@ -1,11 +1,12 @@
--- What each call does to the table is its event's effect: by the path list, the next number and the weight of the
--- live tasks. Assumes nothing.
+-- What each call does to the table is its event's effect: by the path list, the next number, the weight of the live
+-- tasks, and what each live record has after it. Assumes nothing.
 use Prim.Native.Nat.{ℕ, _<_}
 use mathlib.Core.Path.{_≡_, refl, sym, ap, _∙_, subst}
 use mathlib.Core.Bool.{Bool, true, false, cond, _&&_}
 use mathlib.Core.List.{List}
 use mathlib.Core.Logic.{inl, inr}
 use mathlib.Core.Option.{none, some}
+use native.Mathlib.Decide.{ℕ-discrete}
 use native.Mathlib.Omega.{arith}
 use lib.ListN.{length, getD}
 use lib.Dec.{eqb, ltb}
@@ -32,7 +33,7 @@ use Rattle.sound.specs.Promises.{Good}
 use Rattle.table.specs.declared.Path as path
 use Rattle.table.specs.declared.Unit as unit
 use Rattle.table.specs.declared.Table.{Table}
-use Rattle.table.proofs.Views.{OnlyTasks, Found, not-both, live-at, idsOf, ids-at, ids-length, ids-marked, ids-attention-gone, ids-reset-attention, ids-cleared-attention, reset-ids, accepted-put, accepted-only, ended-only, ended-next, ended-paths, ended-units, altered-only, altered-next, finished-ways, pick-at}
+use Rattle.table.proofs.Views.{OnlyTasks, Found, not-both, live-at, idsOf, ids-at, ids-length, ids-marked, ids-attention-gone, ids-reset-attention, ids-cleared-attention, reset-ids, accepted-put, accepted-only, ended-only, ended-next, ended-paths, ended-units, at-ended, altered-at, altered-other, altered-only, altered-next, finished-ways, at-reset, same-at, pick-at}
 use Rattle.table.proofs.Weights.{weight-same, accept-weighs, end-weighs, reset-weighs}
 use Rattle.rules.specs.Management.{endsOf, orderCode, orderChange}
 use Rattle.rules.specs.Facts.{factsOf, lookupOf}
@@ -60,6 +61,7 @@ use Rattle.history.specs.Trace.{Event, Message, Start, Finish, TotalRese
 use Rattle.history.proofs.Nth.{same-element}
 use Rattle.history.proofs.Totals.{weight-live, weight-zero, altered-weighs}
 use Rattle.history.proofs.Fates.{taken}
+use Rattle.history.proofs.Others.{accept-leaves}
 use Rattle.history.proofs.Kept.{endsByStatus, fated, weighed, Sure, Done}
 
 -- ---- what a change of paths and units leaves
@@ -116,7 +118,7 @@ module _ (t : Table) where
 
 pub done-nothing : (t : Table) → Done Nothing t t
 unfolding fateOf
-done-nothing t = record { count = refl; ids = λ p. refl; next = omega arith; weighs = λ f. omega arith; sure = sure-nothing t }
+done-nothing t = record { count = refl; ids = λ p. refl; next = omega arith; weighs = λ f. omega arith; sure = sure-nothing t; follows = λ i a l e. e }
 
 -- paths that keep their ids and units change no effect
 done-beside : (effect : Effect) (t u : Table) (ps : List path.Path) (us : List unit.Unit) → idsOf ps ≡ idsOf (u .paths) → Done effect t u
@@ -127,6 +129,7 @@ done-beside effect t u ps us e d = record {
   next = d .next;
   weighs = λ f. weight-same f u ps us ∙ d .weighs f;
   sure = d .sure;
+  follows = λ i a l e. same-at u ps us i ∙ d .follows i a l e;
 }
 
 only-count : (t u : Table) → OnlyTasks t u → u .count ≡ t .count
@@ -147,6 +150,7 @@ module _ (t : Table) (effect : Effect) (s : Selection) (how : Label) where
     next = omega (arith, ended-next t s, ap (weightAt (λ a. 1)) n);
     weighs = λ f. omega (arith, end-weighs f t s h, left f, ap (weightAt f) n);
     sure = sure;
+    follows = λ i b l e. rw (at-ended t s i h l, e, fates i b l e) (elim (either-way (picks s b)) [ inl y ↦ rw y refl | inr y ↦ rw y refl ]);
   }
     where
       left : (f : Task → ℕ) → weight (λ b. cond (picks s b) 0 (f b)) t ≡ weight (weighed effect f) t
@@ -169,6 +173,12 @@ done-altered t effect k a b g l e n fate rest sure = record {
         ap (weightAt f) n,
       );
   sure = sure;
+  follows = λ i c below here. elim (ℕ-discrete i k) [
+    | yes q ↦
+        let same : a ≡ c = same-element e (rw q at here) in
+        rw (q, altered-at t k b (g .shaped) l e, ← same, fate)
+    | no other ↦ rw (altered-other t k b i other, here, rest c (λ same. other (g .sound .one-arrival i k c a below l here e same)))
+  ];
 }
 
 module _ (t : Table) (g : Good t) where
@@ -199,6 +209,7 @@ module _ (t : Table) (g : Good t) where
         next = ap (λ (x : Table). x .next) (accepted-put u p tag lun kind sequel room);
         weighs = λ f. omega (arith, accept-weighs f u p tag lun kind sequel (shaped-sender p ClearMark) room, done-parts (change.OfSender p ClearMark) .weighs f);
         sure = sure-accepts t p tag lun kind sequel;
+        follows = λ i a l e. accept-leaves i a l u p tag lun kind sequel (done-parts (change.OfSender p ClearMark) .follows i a l e);
       }
 
   done-ruled : (p tag lun : ℕ) (flags : Flags) (r : Ruling) → (r ≡ Accept → hasRoom t ≡ true)
@@ -324,6 +335,7 @@ module _ (t : Table) (g : Good t) where
     next = omega arith;
     weighs = λ f. omega (arith, reset-weighs f t, weight-zero (weighed (Ends everyTask byTotalReset) f) t (λ a. rw (picks-every a) refl));
     sure = sure-ends t everyTask byTotalReset refl;
+    follows = λ i a l e. rw (at-reset t i, picks-every a);
   }
 
 -- ---- a refusal does nothing

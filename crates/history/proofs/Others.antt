@@ -58,7 +58,7 @@ Spares i a (records.Restart place offset) = i ≡ place → ⊥
 
 module _ (i : ℕ) (a : Task) (l : i < 64) where
   -- a new task goes to a free record
-  accept-leaves : (t : Table) (path tag unit : ℕ) (kind : Kind) (sequel : Sequel) → Holds i a t → Holds i a (accepted t path tag unit kind sequel)
+  pub accept-leaves : (t : Table) (path tag unit : ℕ) (kind : Kind) (sequel : Sequel) → Holds i a t → Holds i a (accepted t path tag unit kind sequel)
   unfolding accepted
   accept-leaves t path tag unit kind sequel e =
       cond-ind (Holds i a) (hasRoom t)
