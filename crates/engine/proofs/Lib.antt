@@ -9,4 +9,5 @@ pub mod Confirming
 pub mod Abort
 pub mod Past
 pub mod Outcomes
+pub mod Endings
 mod Calling

@@ -1,4 +1,4 @@
--- A numbered refusal changes nothing; what an accepted command and a start come to. Replies.antt has that replies are
+-- A numbered refusal changes nothing and ends nothing; what an accepted command and a start come to. Replies.antt has that replies are
 -- written, Keeps.antt that tables stay sound, Confirming.antt what becomes of a task that waits to be confirmed,
 -- Abort.antt what ABORT TASK depends on, Past.antt that bytes past the specified length are not read. Assumes
 -- nothing.
@@ -14,9 +14,13 @@ use borrow.Author.Tests.{ltb-false, eqb-false}
 use Rattle.wire.specs.Codes
 use Rattle.wire.specs.Block.{blockLength, cutShort, noBlock, blockOf}
 use Rattle.wire.specs.declared.codes.Refusal.{Refusal}
+use Rattle.wire.specs.declared.codes.StatusByte.{StatusByte}
+use Rattle.wire.specs.declared.codes.Sense.{Sense}
 use Rattle.wire.specs.declared.message.Flags.{Flags}
+use Rattle.task.specs.Map.{gone}
 use Rattle.task.specs.Selections.{named}
 use Rattle.task.proofs.Ways.{never}
+use Rattle.task.proofs.Maps.{gone-none}
 use Rattle.task.proofs.Next.{scan-is-next}
 use Rattle.table.specs.Tables.{zeroTable, pathOf, unitAt, pickOf}
 use Rattle.table.specs.Setup.{badList, setupTable}
@@ -33,10 +37,11 @@ use Rattle.plan.specs.declared.Plan.{Plan}
 use Rattle.plan.specs.declared.Answer.{Answer}
 use Rattle.plan.specs.declared.Answer.the-variants as answer
 use Rattle.plan.proofs.Promises.{order-answer}
-use Rattle.engine.specs.Calls.{planAt, withRecords, carriedOut, messageOf, mayGo, choiceOn, setupOf, replied, Answers, handedOver}
-use Rattle.engine.specs.Promises.{MessageRefusals, FinishRefusals, StartRefusals, ResetRefusals, SetupRefusals, AcceptedIsWhole, Goes, StartsNext}
+use Rattle.engine.specs.Calls.{out, planAt, withRecords, carriedOut, stopsFor, messageOf, mayGo, choiceOn, startOf, finishOf, totalResetOf, setupOf, replied, Answers, handedOver}
+use Rattle.engine.specs.Promises.{MessageRefusals, FinishRefusals, StartRefusals, ResetRefusals, SetupRefusals, EndsNothing, NothingEnded, AcceptedIsWhole, Goes, StartsNext}
 use Rattle.engine.specs.declared.Outcome.{Outcome}
 use Rattle.engine.proofs.Outcomes.{each-message, each-start, each-finish, each-reset, each-confirm, left-by}
+use Rattle.engine.proofs.Endings.{message-gone, finish-gone, reset-gone}
 use Rattle.engine.proofs.Keeps.{accept-is-whole}
 
 -- ---- refusals
@@ -55,22 +60,22 @@ sortOf (answer.Refused n) = 7
 unlike : {A : Type 0} {a b : Answer} → eqb (sortOf a) (sortOf b) ≡ false → a ≡ b → A
 unlike {a = a} {b = b} h e = absurd (eqb-false (sortOf a) (sortOf b) h (ap sortOf e))
 
--- an answer is a refusal only where the table is t
-abbrev Stays : Table → Answer → Table → Type 0
-Stays t a u = (n : Refusal) → a ≡ answer.Refused n → u ≡ t
+-- an answer is a refusal only where the table is t, and nothing has to stop
+abbrev Stays : Table → Answer → Table → ℕ → Type 0
+Stays t a u stops = (n : Refusal) → a ≡ answer.Refused n → (u ≡ t) × (stops ≡ 0)
 
-no-refusal : {t u : Table} {a : Answer} → eqb (sortOf a) 7 ≡ false → Stays t a u
+no-refusal : {t u : Table} {a : Answer} {stops : ℕ} → eqb (sortOf a) 7 ≡ false → Stays t a u stops
 no-refusal h n = unlike h
 
 abbrev Kept : Table → Outcome → Type 0
-Kept t o = Stays t (o .answer) (o .table)
+Kept t o = Stays t (o .answer) (o .table) (o .stops)
 
 abbrev PlanKept : Table → Plan → Type 0
-PlanKept t pl = Stays t (pl .answer) (carriedOut t pl)
+PlanKept t pl = Stays t (pl .answer) (carriedOut t pl) (stopsFor t (pl .records))
 
 ruling-kept : (t : Table) (next p tag lun : ℕ) (flags : Flags) (r : Ruling) → PlanKept t (ruled next p tag lun flags r)
 unfolding carriedOut withRecords
-ruling-kept t next p tag lun flags (Refuse k) = λ _ _. refl
+ruling-kept t next p tag lun flags (Refuse k) = λ _ _. (refl, refl)
 ruling-kept t next p tag lun flags (Respond code sender) = no-refusal refl
 ruling-kept t next p tag lun flags (Report status sense sender) = no-refusal refl
 ruling-kept t next p tag lun flags (Invalid sender) = no-refusal refl
@@ -81,7 +86,7 @@ unfolding carriedOut withRecords
 plan-kept t s next p tag m (Command lun flags) = ruling-kept t next p tag lun flags (deciding (s .facts) flags m .gives)
 plan-kept t s next p tag m (Manage o) = no-refusal (ap (λ (a : Answer). eqb (sortOf a) 7) (order-answer (s .facts) (s .others) p tag m o))
 plan-kept t s next p tag m (Confirm offset complete) =
-    each-confirm (PlanKept t) (s .own) p tag m offset complete (no-refusal refl) (λ _ _. refl) (λ _ _. no-refusal refl) (λ _ _ _. no-refusal refl)
+    each-confirm (PlanKept t) (s .own) p tag m offset complete (no-refusal refl) (λ _ _. (refl, refl)) (λ _ _. no-refusal refl) (λ _ _ _. no-refusal refl)
 
 -- an outcome that meets a contract, where the outcome that it defines is kept
 as-defined : {t : Table} {defined o : Outcome} → Kept t defined → o ≡ defined → Kept t o
@@ -90,30 +95,60 @@ as-defined kept e = rw e kept
 with-reply : {t : Table} {defined : Outcome} (buf : List ℕ) {o : Outcome} {left : List ℕ} (n : Refusal)
     → Kept t defined → Answers defined buf o left → o .answer ≡ answer.Refused n → (o .table ≡ t) × (left ≡ buf)
 unfolding replied
-with-reply buf n kept x e = (as-defined kept (x .outcome) n e, left-by buf x e)
+with-reply buf n kept x e = (as-defined kept (x .outcome) n e .0, left-by buf x e)
+
+message-kept : (t : Table) (m : List ℕ) (n : ℕ) → Kept t (messageOf t m n)
+unfolding planAt
+message-kept t m n = each-message (Kept t) t (λ _ _ _. (refl, refl)) m (λ path tag w _ _. plan-kept t _ _ _ tag m w) n
+
+finish-kept : (t : Table) (arrival : ℕ) (status : StatusByte) (s : Sense) (transferred n : ℕ) → Kept t (finishOf t arrival status s transferred n)
+finish-kept t arrival status s transferred n = each-finish (Kept t) t (λ _ _ _. (refl, refl)) arrival status s transferred n (λ _. no-refusal refl)
+
+start-kept : (t : Table) (unit : ℕ) → Kept t (startOf t unit)
+start-kept t unit = each-start (Kept t) t (λ _ _ _. (refl, refl)) unit (λ _ _ _. no-refusal refl)
+
+reset-kept : (t : Table) → Kept t (totalResetOf t)
+reset-kept t = each-reset (Kept t) t (λ _ _ _. (refl, refl)) (no-refusal refl)
 
 pub message-refusals : MessageRefusals
-unfolding planAt
-message-refusals t m buf o left n =
-    with-reply buf n (each-message (Kept t) t (λ _ _ _. refl) m (λ path tag w _ _. plan-kept t _ _ _ tag m w) (length buf))
+message-refusals t m buf o left n = with-reply buf n (message-kept t m (length buf))
 
 pub finish-refusals : FinishRefusals
-finish-refusals t arrival status s transferred buf o left n =
-    with-reply buf n (each-finish (Kept t) t (λ _ _ _. refl) arrival status s transferred (length buf) (λ _. no-refusal refl))
+finish-refusals t arrival status s transferred buf o left n = with-reply buf n (finish-kept t arrival status s transferred (length buf))
 
 pub start-refusals : StartRefusals
-start-refusals t unit o n e = as-defined (each-start (Kept t) t (λ _ _ _. refl) unit (λ _ _ _. no-refusal refl)) e n
+start-refusals t unit o n e h = as-defined (start-kept t unit) e n h .0
 
 pub reset-refusals : ResetRefusals
-reset-refusals t o n e = as-defined (each-reset (Kept t) t (λ _ _ _. refl) (no-refusal refl)) e n
+reset-refusals t o n e h = as-defined (reset-kept t) e n h .0
 
 pub setup-refusals : SetupRefusals
 unfolding setupOf setupTable
-setup-refusals ids attached first o n e = as-defined (zero (badList ids) _) e n
+setup-refusals ids attached first o n e h = as-defined (zero (badList ids) _) e n h .0
   where
-    zero : (b : Bool) (u : Table) → Stays zeroTable (cond b (answer.Refused Codes.badPaths) answer.Ready) (cond b zeroTable u)
-    zero true u = λ _ _. refl
+    zero : (b : Bool) (u : Table) → Stays zeroTable (cond b (answer.Refused Codes.badPaths) answer.Ready) (cond b zeroTable u) 0
+    zero true u = λ _ _. (refl, refl)
     zero false u = no-refusal refl
+
+-- what left the live map of a table that stays is nothing
+refused-ends : {t : Table} {defined o : Outcome} (n : Refusal) → Kept t defined → defined .ended ≡ gone (t .live) (defined .table .live) → o ≡ defined → o .answer ≡ answer.Refused n → EndsNothing o
+refused-ends {t} {defined} n kept left e h =
+    let k = kept n (sym (ap (λ (q : Outcome). q .answer) e) ∙ h) in
+    rw e (record { ended = left ∙ ap (λ (u : Table). gone (t .live) (u .live)) (k .0) ∙ gone-none (t .live); stops = k .1 })
+
+pub nothing-ended : NothingEnded
+unfolding setupOf
+nothing-ended = record {
+  message = λ t m buf o left n x. refused-ends n (message-kept t m (length buf)) (message-gone t m (length buf)) (x .outcome);
+  start = λ t unit o e. rw e (each-start EndsNothing t (λ _. none-ended) unit (λ _ _ _. none-ended));
+  finish = λ t arrival status s transferred buf o left n x.
+      refused-ends n (finish-kept t arrival status s transferred (length buf)) (finish-gone t arrival status s transferred (length buf)) (x .outcome);
+  total-reset = λ t o n. refused-ends n (reset-kept t) (reset-gone t);
+  setup = λ ids attached first o e. rw e none-ended;
+}
+  where
+    none-ended : {t : Table} {a : Answer} {to : ℕ} → EndsNothing (out t a to)
+    none-ended = record { ended = refl; stops = refl }
 
 -- ---- an accepted command
 

@@ -54,6 +54,20 @@ ResetRefusals = (t : Table) (o : Outcome) (n : Refusal) → TotalResetContract t
 abbrev pub SetupRefusals : Type 0
 SetupRefusals = (ids : List ℕ) (attached first : ℕ) (o : Outcome) (n : Refusal) → SetupContract ids attached first o → o .answer ≡ answer.Refused n → o .table ≡ zeroTable
 
+-- ---- a refusal ends nothing, on any table; nor does a start or a setup, however it is answered
+
+pub record EndsNothing (o : Outcome) : Type 0 where
+  pub ended : o .ended ≡ 0
+  pub stops : o .stops ≡ 0
+
+pub record NothingEnded : Type 0 where
+  pub message : (t : Table) (m buf : List ℕ) (o : Outcome) (left : List ℕ) (n : Refusal) → MessageContract t m buf o left → o .answer ≡ answer.Refused n → EndsNothing o
+  pub start : (t : Table) (unit : ℕ) (o : Outcome) → StartContract t unit o → EndsNothing o
+  pub finish : (t : Table) (arrival : ℕ) (status : StatusByte) (s : Sense) (transferred : ℕ) (buf : List ℕ) (o : Outcome) (left : List ℕ) (n : Refusal)
+      → FinishContract t arrival status s transferred buf o left → o .answer ≡ answer.Refused n → EndsNothing o
+  pub total-reset : (t : Table) (o : Outcome) (n : Refusal) → TotalResetContract t o → o .answer ≡ answer.Refused n → EndsNothing o
+  pub setup : (ids : List ℕ) (attached first : ℕ) (o : Outcome) → SetupContract ids attached first o → EndsNothing o
+
 -- ---- where the answer is a reply, that reply is written
 
 -- r is one that the engine can write, no longer than 64 bytes; its bytes stand at the front of the buffer, and those

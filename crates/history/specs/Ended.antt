@@ -19,8 +19,6 @@ use Rattle.table.specs.declared.Table.{Table}
 use Rattle.plan.specs.Plans.{askedOf}
 use Rattle.plan.specs.declared.Request.{Request}
 use Rattle.plan.specs.declared.Asked.the-variants.{By}
-use Rattle.plan.specs.declared.Answer.the-variants.{Refused}
-use Rattle.wire.specs.declared.codes.Refusal.{Refusal}
 use Rattle.engine.specs.Calls.{SetupContract}
 use Rattle.engine.specs.declared.Outcome.{Outcome}
 use Rattle.history.specs.Trace.{Event, Message, Start, Finish, TotalReset, Label, countsAsStatus, countsAsManagement, countsAsReset, Fate, ended, fateOf, effectOf}
@@ -83,7 +81,7 @@ finishes (Start unit) a = false
 finishes (Finish arrival status sense transferred buf) a = eqb (a .arrival) arrival
 finishes TotalReset a = false
 
--- the task a in record i ran on the unit, the call ended it, and it was not its finish
+-- the task a in record i ran on the unit, one of the eight, the call ended it, and it was not its finish
 pub record Stopped (ev : Event) (t : Table) (o : Outcome) (unit i : ℕ) (a : Task) : Type 0 where
   pub below : i < 64
   pub here : at t i ≡ some a
@@ -96,7 +94,7 @@ pub record StopsIsExact (C : Contract) : Type 0 where
   pub set : (ids : List ℕ) (ev : Event) (t : Table) (o : Outcome) (left : List ℕ) → Made C ids ev t o left
       → (unit : ℕ) → isLive (o .stops) unit ≡ true → (unit < 8) × (i : ℕ) × (a : Task) × Stopped ev t o unit i a
   pub all : (ids : List ℕ) (ev : Event) (t : Table) (o : Outcome) (left : List ℕ) → Made C ids ev t o left
-      → (unit i : ℕ) (a : Task) → Stopped ev t o unit i a → isLive (o .stops) unit ≡ true
+      → (unit i : ℕ) (a : Task) → unit < 8 → Stopped ev t o unit i a → isLive (o .stops) unit ≡ true
 
 -- ---- 4. whose: with ABORT TASK, ABORT TASK SET, CLEAR ACA and CONFIRM STATUS every bit of `ended` is a record of the sender's own path
 
@@ -105,24 +103,12 @@ EndedAreItsOwn C = (ids : List ℕ) (m buf : List ℕ) (t : Table) (o : Outcome)
     → Made C ids (Message m buf) t o left → askedOf (readOf m) ≡ By path tag w → mayReachOthers w ≡ false
     → (i : ℕ) (a : Task) → isLive (o .ended) i ≡ true → at t i ≡ some a → a .path ≡ pathOf t path
 
--- ---- nothing is ended by a refusal, on any table, nor by a setup
-
-pub record EndsNothing (o : Outcome) : Type 0 where
-  pub ended : o .ended ≡ 0
-  pub stops : o .stops ≡ 0
-
-pub record NothingEnded (C : Contract) : Type 0 where
-  pub refused : (ev : Event) (t : Table) (o : Outcome) (left : List ℕ) (n : Refusal) → C ev t o left → o .answer ≡ Refused n → EndsNothing o
-  pub setup : (ids : List ℕ) (attached first : ℕ) (o : Outcome) → SetupContract ids attached first o → EndsNothing o
-
--- ---- the five of a drive's calls
-
+-- the four, of the contracts of a drive's calls
 pub record SaysWhatItEnded (C : Contract) : Type 0 where
   pub ended : EndedIsExact C
   pub silent : NothingGoesSilently C
   pub stops : StopsIsExact C
   pub own : EndedAreItsOwn C
-  pub nothing : NothingEnded C
 
 -- ---- 5. summed over any calls after a setup, for the path at p: accepted = the bits of `ended` that were its records + live
 

@@ -3,8 +3,8 @@
 --     finish-is-step, finish-of-none, finishes      a finish is a change of the units and a step: of a record, of none, and as `Table::finish` makes it
 --     held-loop      for `search`, start and end of the loop that gathers who has a task;        found-more, found-same      its turns, with those of `Gathering`
 --     running-all      the end of the loop that gathers where one runs;        other-as      the paths that have one on a unit
-use Prim.Native.Nat.{ℕ, zero, suc, _+_, _%_, _≤_, _<_}
-use mathlib.Core.Path.{_≡_, refl, sym, ap₂, _∙_}
+use Prim.Native.Nat.{ℕ, _+_, _%_, _≤_, _<_}
+use mathlib.Core.Path.{_≡_, refl, sym, _∙_}
 use mathlib.Core.Bool.{Bool, true, false, not, _&&_, _||_, or-true, or-false, and-true, and-false}
 use mathlib.Core.List.{List}
 use mathlib.Core.Logic.{inl, inr}
@@ -22,6 +22,7 @@ use Rattle.task.specs.declared.Sequel.{Sequel}
 use Rattle.task.specs.declared.Task.{Task}
 use Rattle.task.specs.declared.select.Selection.{Selection}
 use Rattle.task.proofs.Ways.{either-way}
+use Rattle.task.proofs.Places.{some-ext}
 use Rattle.task.proofs.Bits.{live-mapOf}
 use Rattle.task.proofs.Gathering.{gathered, gather-start, low-byte}
 use Rattle.table.specs.Tables.{taskAt, picksAt, anyLive, isOtherOn, withUnits, accepted, endedBy, alteredAt, runsAt, finished}
@@ -127,11 +128,6 @@ pub ruleset held-loop = (gather-start, found-start, held-all)
 
 -- ---- the paths that have a task on a unit
 
-some-alike : (n : ℕ) (p q : ℕ → Bool) → ((i : ℕ) → p i ≡ q i) → someBelow n p ≡ someBelow n q
-unfolding someBelow
-some-alike zero p q e = refl
-some-alike (suc n) p q e = ap₂ _||_ (some-alike n p q e) (e n)
-
 -- of the tasks on a unit those of a path
 on-from : (p unit : ℕ) (a : Task) (b : Bool) → ((b && picks (onUnit unit) a) && eqb (a .path) p) ≡ (b && picks (fromOn p unit) a)
 unfolding picks
@@ -148,4 +144,4 @@ module _ (t : Table) (unit sender : ℕ) where
   unfolding holdersOf anyLive
   other-as p l e h g f =
       let k : p < 64 = omega arith in
-      f ∙ rw (g, h, e, live-mapOf 64 p (holdsOne t (onUnit unit)) k, some-alike 64 _ _ (λ i. on-from p unit (taskAt t i) (isLive (t .live) i)))
+      f ∙ rw (g, h, e, live-mapOf 64 p (holdsOne t (onUnit unit)) k, some-ext 64 _ _ (λ i _. on-from p unit (taskAt t i) (isLive (t .live) i)))

@@ -89,6 +89,11 @@ some-none (suc n) p h = ap₂ _||_ (some-none n p (λ i l. h i (omega arith))) (
 pub none-at : (n i : ℕ) (p : ℕ → Bool) → someBelow n p ≡ false → i < n → p i ≡ false
 none-at n i p e l = elim (either-way (p i)) [ inl h ↦ absurd (never (some-at n i p l h) e) | inr h ↦ h ]
 
+pub some-ext : (n : ℕ) (p q : ℕ → Bool) → ((i : ℕ) → i < n → p i ≡ q i) → someBelow n p ≡ someBelow n q
+unfolding someBelow
+some-ext zero p q h = refl
+some-ext (suc n) p q h = ap₂ _||_ (some-ext n p q (λ i l. h i (omega arith))) (h n (omega arith))
+
 -- ---- all
 
 pub all-of : (n : ℕ) (p : ℕ → Bool) → ((i : ℕ) → i < n → p i ≡ true) → allBelow n p ≡ true
