@@ -118,7 +118,7 @@ open-one false = refl
 
 -- ---- the commands of a path: as many entries as the trace accepts
 
-accepted-path : (p : ℕ) (effect : Effect) → added effect (λ a. one (isFrom p a)) ≡ one (acceptsFrom p effect)
+pub accepted-path : (p : ℕ) (effect : Effect) → added effect (λ a. one (isFrom p a)) ≡ one (acceptsFrom p effect)
 accepted-path p Nothing = refl
 accepted-path p (Accepts a) = refl
 accepted-path p (Starts arrival) = refl

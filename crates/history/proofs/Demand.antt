@@ -33,7 +33,7 @@ use Rattle.history.proofs.Agreeing.{agrees}
 
 -- ---- after setup
 
-tied-fresh : (ids : List ℕ) (attached first : ℕ) → first < 2 ^ 64 → badList ids ≡ false → Tied ids [] (setupOf ids attached first .table)
+pub tied-fresh : (ids : List ℕ) (attached first : ℕ) → first < 2 ^ 64 → badList ids ≡ false → Tied ids [] (setupOf ids attached first .table)
 unfolding setupOf setupTable freshTable total
 tied-fresh ids attached first l b = record {
   good = setup-is-good ids attached first l b;
@@ -47,7 +47,7 @@ tied-fresh ids attached first l b = record {
 
 -- ---- after a refused setup
 
-zero-setup : (ids : List ℕ) (attached first : ℕ) → badList ids ≡ true → setupOf ids attached first .table ≡ zeroTable
+pub zero-setup : (ids : List ℕ) (attached first : ℕ) → badList ids ≡ true → setupOf ids attached first .table ≡ zeroTable
 unfolding setupOf setupTable
 zero-setup ids attached first b = rw b
 
@@ -119,7 +119,7 @@ drive-keeps ids l t n TotalReset o left T c =
     rw c (kept ids l t (totalResetOf t .table) T (reset-keeps t (T .good)) n _ (reset-done ids t (T .good) (T .listed) (T .ids-stand)))
 
 -- a call on the all-zero table is refused by 13
-unsound : (ev : Event) → (engine ev zeroTable .answer ≡ answer.Refused Codes.notSound) × (engine ev zeroTable .table ≡ zeroTable)
+pub unsound : (ev : Event) → (engine ev zeroTable .answer ≡ answer.Refused Codes.notSound) × (engine ev zeroTable .table ≡ zeroTable)
 unfolding engine messageOf heardOf answeredTo startOf startVerdict finishOf finishVerdict totalResetOf soundOf countOk zeroTable alteredAt finished
 unsound (Message m buf) = (refl, refl)
 unsound (Start unit) = (refl, refl)
@@ -134,7 +134,7 @@ drive-refuses ev o left c = record {
 }
 
 -- an outcome that meets the contracts is the engine's
-as-drive : (ev : Event) (t : Table) (o : Outcome) (left : List ℕ) → Engine ev t o left → ByDrive engine ev t o left
+pub as-drive : (ev : Event) (t : Table) (o : Outcome) (left : List ℕ) → Engine ev t o left → ByDrive engine ev t o left
 unfolding engine
 as-drive (Message m buf) t o left c = c .outcome
 as-drive (Start unit) t o left c = c
@@ -148,7 +148,7 @@ demand-three =
 
 -- ---- the engine's own calls
 
-meets-contract : (ev : Event) (t : Table) → Engine ev t (engine ev t) (leftAfter ev (engine ev t .answer))
+pub meets-contract : (ev : Event) (t : Table) → Engine ev t (engine ev t) (leftAfter ev (engine ev t .answer))
 unfolding engine leftAfter
 meets-contract (Message m buf) t = record { outcome = refl; buffer = refl }
 meets-contract (Start unit) t = refl

@@ -3,6 +3,8 @@
 pub mod Demand
 pub mod Traces
 pub mod Others
+pub mod Ended
+pub mod Summed
 pub mod Drives
 pub mod TwoHosts
 mod Nth

@@ -71,6 +71,11 @@ module _ {A : Type 0} where
 
 -- ---- weights
 
+pub sum-add : (n : ℕ) (f g : ℕ → ℕ) → sum n (λ i. f i + g i) ≡ sum n f + sum n g
+unfolding sum
+sum-add zero f g = refl
+sum-add (suc n) f g = omega (arith, sum-add n f g)
+
 sum-find : (n : ℕ) (f : ℕ → ℕ) → 1 ≤ sum n f → (i : ℕ) × (i < n) × (1 ≤ f i)
 unfolding sum
 sum-find zero f h = absurd (omega arith)
