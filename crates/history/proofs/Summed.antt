@@ -1,6 +1,6 @@
 -- What the calls ended, summed over the calls after a setup, beside what the trace accepted and what is live. Assumes
 -- nothing.
-use Prim.Native.Nat.{ℕ, _+_, _<_}
+use Prim.Native.Nat.{ℕ, _+_, _<_, _^_}
 use mathlib.Core.Path.{_≡_, refl, sym, ap, subst, _∙_}
 use mathlib.Core.Bool.{Bool, true, false, _&&_}
 use mathlib.Core.List.{List, [], _∷_}
@@ -10,7 +10,7 @@ use native.Mathlib.Omega.{arith}
 use lib.ListN.{length}
 use lib.Dec.{eqb}
 use Rattle.task.specs.Index.{one}
-use Rattle.task.specs.Map.{isLive}
+use Rattle.task.specs.Map.{isLive, gone}
 use Rattle.task.specs.declared.Task.{Task}
 use Rattle.task.proofs.Ways.{either-way}
 use Rattle.task.proofs.Places.{sum-ext, sum-zero}
@@ -22,11 +22,12 @@ use Rattle.table.specs.View.{at, weightAt, weight, liveOf}
 use Rattle.sound.specs.Promises.{Good}
 use Rattle.table.specs.declared.Table.{Table}
 use Rattle.table.proofs.Views.{not-both, at-live, at-dead}
-use Rattle.engine.specs.Calls.{setupOf}
+use Rattle.table.proofs.Weights.{setup-weighs}
+use Rattle.engine.specs.Calls.{SetupContract, setupOf}
 use Rattle.engine.specs.declared.Outcome.{Outcome}
 use Rattle.engine.proofs.Keeps.{message-keeps, start-keeps, finish-keeps, reset-keeps}
-use Rattle.history.specs.Trace.{Event, Message, Start, Finish, TotalReset, Effect, Fate, stays, becomes, ended, fateOf, effectOf}
-use Rattle.history.specs.Ledger.{total, isFrom, acceptsFrom, acceptedFrom}
+use Rattle.history.specs.Trace.{Event, Message, Start, Finish, TotalReset, countsAsStatus, countsAsManagement, countsAsReset, Effect, Nothing, Fate, stays, becomes, ended, fateOf, effectOf}
+use Rattle.history.specs.Ledger.{ledger, total, isFrom, acceptsFrom, acceptedFrom, endedFrom}
 use Rattle.history.specs.Demand.{Call, told, Engine, Chained, lastTable}
 use Rattle.history.specs.Drives.{engine}
 use Rattle.history.specs.Ended.{Lists, Made, endedOf, endedAlong, EndedAddUp}
@@ -93,3 +94,70 @@ module _ (ids : List ℕ) (ev : Event) (t : Table) (o : Outcome) (left : List �
         done-by ids ev t o left x .weighs (ofPath p),
         accepted-path p effect,
       )
+
+-- ---- along the calls
+
+-- where every call on a table that fits is balanced and hands back one that fits, live at first and accepted = ended
+-- and live at last
+module _ (ids : List ℕ) (p : ℕ) (Fits : Table → Type 0) (step : (ev : Event) (t : Table) (o : Outcome) (left : List ℕ) → Fits t → Engine ev t o left → Balanced ids p ev t o × Fits (o .table)) where
+  along : (t : Table) (cs : List Call) → Fits t → Chained Engine t cs → liveOf p t + acceptedFrom ids p (told cs) ≡ endedAlong p t cs + liveOf p (lastTable t cs)
+  unfolding total endedAlong lastTable
+  along t [] f m = omega arith
+  along t (c ∷ cs) f m =
+      let s = step (c .event) t (c .outcome) (c .left) f (m .0) in
+      omega (arith, s .0, along (c .outcome .table) cs (s .1) (m .1))
+
+-- a sound table with the ids of setup
+pub record Fitting (ids : List ℕ) (t : Table) : Type 0 where
+  pub good : Good t
+  pub lists : Lists ids t
+
+good-after : (ev : Event) (t : Table) → Good t → Good (engine ev t .table)
+unfolding engine
+good-after (Message m buf) t g = message-keeps t m (length buf) g
+good-after (Start unit) t g = start-keeps t unit g
+good-after (Finish arrival status sense transferred buf) t g = finish-keeps t arrival status sense transferred (length buf) g
+good-after TotalReset t g = reset-keeps t g
+
+fitting-step : (ids : List ℕ) (p : ℕ) (ev : Event) (t : Table) (o : Outcome) (left : List ℕ) → Fitting ids t → Engine ev t o left → Balanced ids p ev t o × Fitting ids (o .table)
+fitting-step ids p ev t o left f c =
+    let x : Made Engine ids ev t o left = record { good = f .good; lists = f .lists; call = c } in
+    let d = done-by ids ev t o left x in (
+      balanced ids ev t o left x p,
+      record {
+        good = rw (as-drive ev t o left c) (good-after ev t (f .good));
+        lists = record { count = d .count ∙ f .lists .count; each = λ q below. d .ids q ∙ f .lists .each q (omega (arith, d .count)) };
+      },
+    )
+
+-- the all-zero table, on which every call is refused
+zero-step : (ids : List ℕ) (p : ℕ) (ev : Event) (t : Table) (o : Outcome) (left : List ℕ) → t ≡ zeroTable → Engine ev t o left → Balanced ids p ev t o × (o .table ≡ zeroTable)
+zero-step ids p ev t o left z c =
+    let e : Engine ev zeroTable o left = rw z at c in
+    let s = unsound ev in
+    let answered = ap (λ (q : Outcome). q .answer) (as-drive ev zeroTable o left e) ∙ s .0 in
+    let table : o .table ≡ zeroTable = ap (λ (q : Outcome). q .table) (as-drive ev zeroTable o left e) ∙ s .1 in
+    let nothing : effectOf ids ev (o .answer) ≡ Nothing = ap (effectOf ids ev) answered ∙ refused-nothing ids ev _ in
+    let clear : o .ended ≡ 0 = gone-by ev zeroTable o left e ∙ ap (λ (u : Table). gone (zeroTable .live) (u .live)) table ∙ gone-none (zeroTable .live) in
+    let none-ended : endedOf p t o ≡ 0 = sum-zero 64 _ (λ i _. rw (clear, dead-zero i) refl) in
+    (rw (nothing, none-ended, table, z) (omega arith), table)
+
+pub ended-add-up : EndedAddUp Engine
+unfolding setupOf
+ended-add-up = record { accepted = adds; ledgered = ledgers }
+  where
+    adds : (ids : List ℕ) (attached first : ℕ) (o : Outcome) (cs : List Call) (p : ℕ) → first < 2 ^ 64 → SetupContract ids attached first o → Chained Engine (o .table) cs
+        → acceptedFrom ids p (told cs) ≡ endedAlong p (o .table) cs + liveOf p (lastTable (o .table) cs)
+    adds ids attached first o cs p l made chained =
+        let none-live : liveOf p (o .table) ≡ 0 = rw made (setup-weighs (ofPath p) ids attached first) in
+        elim (either-way (badList ids)) [
+          | inl b ↦ omega (arith, none-live, along ids p (λ (t : Table). t ≡ zeroTable) (zero-step ids p) (o .table) cs (ap (λ (q : Outcome). q .table) made ∙ zero-setup ids attached first b) chained)
+          | inr b ↦
+              let T = tied-fresh ids attached first l b in
+              let f : Fitting ids (o .table) = rw made (record { good = T .good; lists = record { count = T .listed; each = T .ids-stand } }) in
+              omega (arith, none-live, along ids p (Fitting ids) (fitting-step ids p) (o .table) cs f chained)
+        ]
+
+    ledgers : (ids : List ℕ) (attached first : ℕ) (o : Outcome) (cs : List Call) (p : ℕ) → first < 2 ^ 64 → SetupContract ids attached first o → Chained Engine (o .table) cs
+        → endedAlong p (o .table) cs ≡ endedFrom countsAsStatus p (ledger ids (told cs)) + endedFrom countsAsManagement p (ledger ids (told cs)) + endedFrom countsAsReset p (ledger ids (told cs))
+    ledgers ids attached first o cs p l made chained = omega (arith, adds ids attached first o cs p l made chained, demand-three ids attached first o cs l made chained .balance p)
