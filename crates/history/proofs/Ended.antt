@@ -172,12 +172,12 @@ module _ (t : Table) (o : Outcome) where
   unit-all e unit i l below ran set there = ap (λ (m : ℕ). isLive m unit) e ∙ live-mapOf 8 unit _ l ∙ some-at 64 i _ below (rw (ran, set, eq-eqb _ _ there) refl)
 
 -- what a finish ends is the command that it names
-abbrev isEnded : Fate → Bool
+abbrev pub isEnded : Fate → Bool
 isEnded stays = false
 isEnded (becomes b) = false
 isEnded (ended how) = true
 
-finish-named : (arrival transferred : ℕ) (r : Option Reply) (a : Task) (how : Label) → fateOf (finishReplied arrival transferred r) a ≡ ended how → eqb (a .arrival) arrival ≡ true
+pub finish-named : (arrival transferred : ℕ) (r : Option Reply) (a : Task) (how : Label) → fateOf (finishReplied arrival transferred r) a ≡ ended how → eqb (a .arrival) arrival ≡ true
 unfolding fateOf
 finish-named arrival transferred none a how e = absurd (never (ap isEnded e) refl)
 finish-named arrival transferred (some (reply.Response tag code)) a how e = absurd (never (ap isEnded e) refl)

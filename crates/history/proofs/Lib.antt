@@ -5,6 +5,7 @@ pub mod Traces
 pub mod Others
 pub mod Ended
 pub mod Summed
+pub mod Sayings
 pub mod Drives
 pub mod TwoHosts
 mod Nth

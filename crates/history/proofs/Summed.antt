@@ -29,14 +29,14 @@ use Rattle.engine.proofs.Keeps.{message-keeps, start-keeps, finish-keeps, reset
 use Rattle.history.specs.Trace.{Event, Message, Start, Finish, TotalReset, countsAsStatus, countsAsManagement, countsAsReset, Effect, Nothing, Fate, stays, becomes, ended, fateOf, effectOf}
 use Rattle.history.specs.Ledger.{ledger, total, isFrom, acceptsFrom, acceptedFrom, endedFrom}
 use Rattle.history.specs.Demand.{Call, told, Engine, Chained, lastTable}
-use Rattle.history.specs.Drives.{engine}
+use Rattle.history.specs.Drives.{callsOf, engine}
 use Rattle.history.specs.Ended.{Lists, Made, endedOf, endedAlong, EndedAddUp}
 use Rattle.history.proofs.Nth.{same-element}
 use Rattle.history.proofs.Totals.{sum-add}
 use Rattle.history.proofs.Kept.{fated, weighed, leftOf}
 use Rattle.history.proofs.Agreeing.{accepted-path}
 use Rattle.history.proofs.Calls.{refused-nothing}
-use Rattle.history.proofs.Demand.{tied-fresh, zero-setup, unsound, as-drive, demand-three}
+use Rattle.history.proofs.Demand.{tied-fresh, zero-setup, unsound, as-drive, demand-three, meets-contract}
 use Rattle.history.proofs.Ended.{done-by, gone-by, bit, follows, set, silent}
 
 -- ---- one call
@@ -129,6 +129,11 @@ fitting-step ids p ev t o left f c =
         lists = record { count = d .count ∙ f .lists .count; each = λ q below. d .ids q ∙ f .lists .each q (omega (arith, d .count)) };
       },
     )
+
+pub fitting-along : (ids : List ℕ) (t : Table) (evs : List Event) → Fitting ids t → Fitting ids (lastTable t (callsOf engine t evs))
+unfolding lastTable callsOf
+fitting-along ids t [] f = f
+fitting-along ids t (ev ∷ evs) f = fitting-along ids (engine ev t .table) evs (fitting-step ids 0 ev t (engine ev t) _ f (meets-contract ev t) .1)
 
 -- the all-zero table, on which every call is refused
 zero-step : (ids : List ℕ) (p : ℕ) (ev : Event) (t : Table) (o : Outcome) (left : List ℕ) → t ≡ zeroTable → Engine ev t o left → Balanced ids p ev t o × (o .table ≡ zeroTable)

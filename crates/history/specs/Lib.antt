@@ -5,4 +5,5 @@ pub mod Ledger
 pub mod Demand
 pub mod Ended
 pub mod Drives
+pub mod Sayings
 pub mod TwoHosts
