@@ -69,6 +69,8 @@ struct Engine {
     attached: u8,
     aca: [Option<usize>; 8],
     checks: bool,
+    ended: u64,
+    stopped: u64,
 }
 
 const LENGTHS: [Option<usize>; 8] = [
@@ -103,6 +105,8 @@ impl Engine {
             attached,
             aca: [None; 8],
             checks,
+            ended: 0,
+            stopped: 0,
         }
     }
 
@@ -121,6 +125,8 @@ impl Engine {
     fn end(&mut self, picked: impl Fn(&Task) -> bool) {
         for slot in self.tasks.iter_mut() {
             if slot.as_ref().is_some_and(&picked) {
+                self.ended += 1;
+                self.stopped += (slot.as_ref().unwrap().phase == Phase::Running) as u64;
                 *slot = None;
             }
         }
@@ -435,11 +441,13 @@ fn main() {
         tally.add(answer, &reply);
     }
     println!(
-        "accepted {} 00h {} 04h {} 01h {} live {}",
+        "accepted {} 00h {} 04h {} 01h {} ended {} stopped {} live {}",
         tally.accepted,
         tally.done,
         tally.overlapped,
         tally.not_found,
+        engine.ended,
+        engine.stopped,
         engine.live().count()
     );
 }

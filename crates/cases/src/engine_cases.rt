@@ -1,4 +1,5 @@
-// The letters of the engine's calls: each takes the kept table, says the answer, and hands back the next table.
+// The letters of the engine's calls: each takes the kept table, says the answer and what was ended, and hands back the
+// next table.
 use crate::cases::BUFFER;
 use crate::cases::FILL;
 use crate::cases::ROOM;
@@ -7,7 +8,9 @@ use crate::cases::refused;
 use crate::print::counted;
 use crate::print::counted_if;
 use crate::print::decimal;
+use crate::print::hex;
 use crate::print::hex_long;
+use crate::print::hex_map;
 use crate::print::hex_word;
 use crate::print::pairs;
 use crate::print::text;
@@ -90,10 +93,24 @@ fn say(a: Answer) {
     }
 }
 
+// What a call ended, and which units have to stop, where it is anything.
+fn say_ended(ended: u64, stops: u8) {
+    if ended == 0 {
+        if stops == 0 {
+            return;
+        }
+    }
+    text(b" ended ");
+    hex_map(ended);
+    text(b" stops ");
+    hex(stops);
+}
+
 // The answer of a call that writes no reply, and its table.
 fn told(o: Outcome) -> Table {
     let a = o.answer;
     say(a);
+    say_ended(o.ended, o.stops);
     o.table
 }
 
@@ -153,6 +170,7 @@ fn receive(t: Table, m: &[u8], buffer: &mut [u8]) -> Table {
     say_to(a, o.to);
     say_block(command_block(m, a));
     say_buffer(buffer);
+    say_ended(o.ended, o.stops);
     o.table
 }
 
@@ -190,6 +208,7 @@ fn end_in(t: Table, c: &[u8], buffer: &mut [u8]) -> Table {
     let a = o.answer;
     say_to(a, o.to);
     say_buffer(buffer);
+    say_ended(o.ended, o.stops);
     o.table
 }
 

@@ -1,5 +1,5 @@
-// Runs cases, bytes and calls: echoes each line of standard input, then of the file `confirmed`, and answers it where
-// it is a case. A table is kept from line to line of each.
+// Runs cases, bytes and calls: echoes each line of standard input, then of the files `confirmed` and `ended`, and
+// answers it where it is a case. A table is kept from line to line of each.
 mod cases;
 mod engine_cases;
 mod print;
@@ -138,13 +138,20 @@ fn run_file(fd: i32) {
     lines(&buffer[..count]);
 }
 
-fn main() {
-    run_file(STDIN_FILENO);
-    let fd = os::open_read(b"confirmed");
+// Takes the lines of a file.
+fn run_named(name: &[u8]) {
+    let fd = os::open_read(name);
     if fd < 0 {
-        text(b"confirmed missing\n");
+        text(name);
+        text(b" missing\n");
         return;
     }
     run_file(fd);
     libc::close(fd);
+}
+
+fn main() {
+    run_file(STDIN_FILENO);
+    run_named(b"confirmed");
+    run_named(b"ended");
 }
