@@ -30,7 +30,7 @@ use Rattle.table.proofs.Views.{not-both, at-live, at-dead, live-at}
 use Rattle.plan.specs.Plans.{replyOf}
 use Rattle.engine.specs.Calls.{messageOf, startOf, finishOf, totalResetOf}
 use Rattle.engine.specs.declared.Outcome.{Outcome}
-use Rattle.engine.proofs.Endings.{runsOf, runningIn, message-gone, start-gone, finish-gone, reset-gone, message-stops, start-stops, finish-stops, reset-stops}
+use Rattle.engine.proofs.Endings.{message-gone, start-gone, finish-gone, reset-gone}
 use Rattle.history.specs.Trace.{Event, Message, Start, Finish, TotalReset, Label, Effect, Fate, stays, becomes, ended, fateOf, finishReplied, effectOf}
 use Rattle.history.specs.Demand.{Engine}
 use Rattle.history.specs.Drives.{engine, ByDrive}
@@ -39,6 +39,7 @@ use Rattle.history.proofs.Nth.{same-element}
 use Rattle.history.proofs.Fates.{goes-on-as}
 use Rattle.history.proofs.Kept.{leftOf, Done}
 use Rattle.history.proofs.Calls.{message-done, start-done, finish-done, reset-done}
+use Rattle.history.proofs.Stopping.{runsOf, runningIn, message-stops, start-stops, finish-stops, reset-stops}
 use Rattle.history.proofs.Others.{others-stay}
 use Rattle.history.proofs.Demand.{as-drive, meets-contract}
 

@@ -8,6 +8,7 @@ pub mod Summed
 pub mod Sayings
 pub mod Drives
 pub mod TwoHosts
+mod Stopping
 mod Nth
 mod Totals
 mod Fates
