@@ -1,6 +1,4 @@
 -- The theorems about the calls; how a call's outcome comes about; the cases of the functions.
-pub mod Examples
-pub mod Drives
 pub mod Unique
 pub mod Promises
 pub mod Replies
@@ -10,4 +8,5 @@ pub mod Abort
 pub mod Past
 pub mod Outcomes
 pub mod Endings
+pub mod Computing
 mod Calling

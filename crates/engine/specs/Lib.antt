@@ -4,5 +4,3 @@ pub mod Calls
 pub mod Steps
 pub mod Unique
 pub mod Promises
-pub mod Examples
-pub mod Drives

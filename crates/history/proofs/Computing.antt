@@ -5,7 +5,7 @@ use Rattle.task.specs.Map.{liveCount}
 use Rattle.table.specs.Tables.{resetOf}
 use Rattle.table.specs.View.{at, weight}
 use Rattle.engine.specs.Calls.{totalResetOf}
-use Rattle.engine.proofs.Examples.{computing as call}
+use Rattle.engine.proofs.Computing.{computing as call}
 use Rattle.history.specs.Trace.{nth, fateOf, placeIn}
 use Rattle.history.specs.Ledger.{afterEffect, noted, ledgerFrom, total}
 use Rattle.history.specs.Demand.{lastTable}

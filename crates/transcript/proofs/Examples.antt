@@ -2,7 +2,7 @@
 use mathlib.Core.Path.{refl}
 use Rattle.task.specs.Index.{sum}
 use Rattle.task.specs.Map.{liveCount}
-use Rattle.engine.proofs.Examples.{computing}
+use Rattle.engine.proofs.Computing.{computing}
 use Rattle.input.specs.Numbers.{withGroup, numberIn, below, given}
 use Rattle.input.specs.Header.{idsThen, headingOf}
 use Rattle.input.specs.Events.{messageAt, startAt, finishAt, byKind, eventAt}

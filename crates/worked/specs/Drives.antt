@@ -6,9 +6,9 @@ use Rattle.wire.specs.declared.codes.Refusal.{Refusal}
 use Rattle.table.specs.declared.Table.{Table}
 use Rattle.plan.specs.declared.Answer.{Answer}
 use Rattle.plan.specs.declared.Answer.the-variants as answer
 use Rattle.engine.specs.Calls.{MessageContract}
-use Rattle.engine.specs.Examples.{quiet, full, plain, resumed, buffer}
+use Rattle.worked.specs.Examples.{quiet, full, plain, resumed, buffer}
 use Rattle.engine.specs.declared.Outcome.{Outcome}
 
 -- for a table, a message and a reply buffer: the outcome, and the buffer as it is left
 pub record MessageDrive : Type 0 where

@@ -9,11 +9,11 @@ use Rattle.table.specs.declared.Table.{Table}
 use Rattle.plan.specs.declared.Answer.{Answer}
 use Rattle.reply.specs.declared.Reply.the-variants.{Response, Status}
 use Rattle.plan.specs.declared.Answer.the-variants.{Ready, Accepted, Reply, Refused}
 use Rattle.engine.specs.Calls.{messageOf}
-use Rattle.engine.specs.Examples.{quiet, full, plain, resumed, again, examples, buffer, got, said}
-use Rattle.engine.specs.Drives.{MessageDrive, MeetsAt, WrongDrives}
+use Rattle.worked.specs.Examples.{quiet, full, plain, resumed, again, examples, buffer, got, said}
+use Rattle.worked.specs.Drives.{MessageDrive, MeetsAt, WrongDrives}
 use Rattle.engine.specs.declared.Outcome.{Outcome}
-use Rattle.engine.proofs.Examples.{examples-hold}
+use Rattle.worked.proofs.Examples.{examples-hold}
 
 -- the answer of a table to a message
 abbrev to : Table → List ℕ → Answer

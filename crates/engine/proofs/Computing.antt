@@ -1,5 +1,5 @@
--- Page 01's examples, its worked calls, confirmed status and what each order ends, computed. Assumes nothing.
-use mathlib.Core.Path.{refl}
+-- The definitions that a call is computed by, for proofs by computation here and above: of messages and replies, of
+-- tasks and tables, of rules, orders and plans, and of the calls. Assumes nothing.
 use Rattle.wire.specs.Messages.{rowIn, fieldsOf, readOf, commandReserved, confirmReserved, reservedSet}
 use Rattle.wire.specs.Block.{cutShort, noBlock, linked}
 use Rattle.reply.specs.Replies.{writableOf, bytesOf}
@@ -17,10 +17,7 @@ use Rattle.rules.specs.Rules.{resumesUnmarked, missesResume, contradicts, keptO
 use Rattle.rules.specs.Management.{orderCode}
 use Rattle.plan.specs.Plans.{orderPlan, confirmPlan}
 use Rattle.engine.specs.Calls.{heardOf, planAt, planFor, withRecords, carriedOut, answeredTo, messageOf, choiceOn, startVerdict, startOf, finishVerdict, finishOf, setupOf, replied}
-use Rattle.engine.specs.Examples.{quiet, tasksFrom, full, examples, waits, underway, unconfirmed, again8, confirmations, shared, orders, ExamplesHold, WorkedCalls, ConfirmationsHold, ConfirmedCalls, OrdersEnd}
 
--- the definitions that these are computed by: of messages and replies, of tasks and tables, of rules, orders and
--- plans, of the calls and the examples
 unfoldable bytes : Unit {0}
 unfolding rowIn fieldsOf readOf commandReserved confirmReserved reservedSet cutShort noBlock linked writableOf bytesOf leftOf
 bytes = tt
@@ -34,30 +31,10 @@ unfolding firstThat factsOf lookupOf resumesUnmarked missesResume contradicts ke
 answers = tt
 
 unfoldable calls : Unit {0}
-unfolding heardOf planAt planFor withRecords carriedOut answeredTo messageOf choiceOn startVerdict startOf finishVerdict finishOf setupOf replied quiet tasksFrom full examples waits underway unconfirmed again8 confirmations shared orders
+unfolding heardOf planAt planFor withRecords carriedOut answeredTo messageOf choiceOn startVerdict startOf finishVerdict finishOf setupOf replied
 calls = tt
 
--- all of them, for the crates above too
+-- to unfold this name is to unfold all that stand here
 unfoldable pub computing : Unit {0}
 unfolding bytes tables answers calls
 computing = tt
-
-pub examples-hold : ExamplesHold
-unfolding computing
-examples-hold = refl
-
-pub worked-calls : WorkedCalls
-unfolding computing
-worked-calls = refl
-
-pub confirmations-hold : ConfirmationsHold
-unfolding computing
-confirmations-hold = refl
-
-pub confirmed-calls : ConfirmedCalls
-unfolding computing
-confirmed-calls = refl
-
-pub orders-end : OrdersEnd
-unfolding computing
-orders-end = refl
