@@ -93,13 +93,8 @@ fn say(a: Answer) {
     }
 }
 
-// What a call ended, and which units have to stop, where it is anything.
+// What a call ended, and which units have to stop.
 fn say_ended(ended: u64, stops: u8) {
-    if ended == 0 {
-        if stops == 0 {
-            return;
-        }
-    }
     text(b" ended ");
     hex_map(ended);
     text(b" stops ");

@@ -1,6 +1,6 @@
--- A numbered refusal changes nothing and ends nothing; what an accepted command and a start come to. Replies.antt has that replies are
--- written, Keeps.antt that tables stay sound, Confirming.antt what becomes of a task that waits to be confirmed,
--- Abort.antt what ABORT TASK depends on, Past.antt that bytes past the specified length are not read. Assumes
+-- A numbered refusal changes nothing and ends nothing; what an accepted command and a start come to. Replies.antt has
+-- that replies are written, Keeps.antt that tables stay sound, Confirming.antt what becomes of a task that waits to be
+-- confirmed, Abort.antt what ABORT TASK depends on, Past.antt that bytes past the specified length are not read. Assumes
 -- nothing.
 use Prim.Native.Nat.{ℕ, _+_, _≤_}
 use mathlib.Core.Path.{_≡_, refl, sym, ap, _∙_}

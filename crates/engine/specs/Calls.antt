@@ -1,5 +1,5 @@
--- What each call answers, what table it hands back, and what it leaves in the reply buffer: the refusals in their
--- order, then the rest.
+-- What each call answers, what table it hands back, what it ended, and what it leaves in the reply buffer: the refusals
+-- in their order, then the rest.
 use Prim.Native.Nat.{ℕ}
 use mathlib.Core.Path.{_≡_}
 use mathlib.Core.Bool.{Bool, true, false, cond, not, _&&_, _||_}

@@ -1,5 +1,5 @@
 -- The definition of demand 2, over the rules of `rules` and the plans of `plan`: what each call answers, does to the
--- table and leaves in the reply buffer.
+-- table, says that it ended and leaves in the reply buffer.
 pub mod Calls
 pub mod Steps
 pub mod Unique

@@ -122,8 +122,8 @@ fn step_of(r: RecordChange) -> Step
     }
 }
 
-// A message received: the next table, the answer, and the reply in the buffer. The plan is found first, then carried
-// out on the one table: paths and units in place, then the records.
+// A message received: the next table, the answer, what was ended, and the reply in the buffer. The plan is found first,
+// then carried out on the one table: paths and units in place, then the records.
 pub fn message(mut t: Table, m: &[u8], reply: &mut [u8]) -> Outcome
     ensures { λ o. ⌜ MessageContract t (now (m .entry)) (now (reply .entry)) o (now (reply .exit)) ⌝ }
 {
@@ -157,7 +157,8 @@ pub fn message(mut t: Table, m: &[u8], reply: &mut [u8]) -> Outcome
     t.units = changed_units;
     let before = t.live;
     let mut stops: u8 = 0;
-    // No step where no record changes: it would copy the table twice. Only what an order ends may run, and has to stop.
+    // No step where no record changes: it would copy the table twice. Of what a message ends only what an order ends can
+    // be running: its unit has to stop.
     match records {
         RecordChange::Nothing => {}
         RecordChange::End(s) => {

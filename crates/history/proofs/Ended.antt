@@ -1,43 +1,41 @@
 -- What a call says that it ended is what the trace says: by the fate of each live record's task. Summed.antt adds it
 -- up over the calls. Assumes nothing.
-use Prim.Native.Nat.{ℕ, zero, suc, _+_, _^_, _<_, _≤_}
-use mathlib.Core.Path.{_≡_, refl, sym, ap, subst, _∙_}
+use Prim.Native.Nat.{ℕ, zero, suc, _+_, _^_, _<_}
+use mathlib.Core.Path.{_≡_, refl, sym, ap, _∙_}
 use mathlib.Core.Bool.{Bool, true, false, not, _&&_}
-use mathlib.Core.List.{List, [], _∷_}
-use mathlib.Core.Logic.{inl, inr, ⊎-elim}
+use mathlib.Core.List.{List}
+use mathlib.Core.Logic.{inl, inr}
 use mathlib.Core.Option.{Option, none, some}
 use native.Mathlib.Decide.{ℕ-discrete}
-use native.Mathlib.Numerals.{add-one}
 use native.Mathlib.Omega.{arith}
 use lib.ListN.{length, getD}
 use lib.Dec.{eqb}
-use borrow.Author.Tests.{eq-eqb, eqb-true, not-true, not-false}
+use lib.Pow.{pow-pos}
+use borrow.Author.Tests.{eq-eqb, eqb-true, not-true}
 use Rattle.reply.specs.declared.Reply.{Reply}
 use Rattle.reply.specs.declared.Reply.the-variants as reply
-use Rattle.task.specs.Index.{someBelow, sum, one, mapOf}
 use Rattle.task.specs.Map.{isLive, gone}
 use Rattle.task.specs.Tasks.{isRunning}
 use Rattle.task.specs.declared.Task.{Task}
 use Rattle.task.proofs.Ways.{either-way, never, both}
-use Rattle.task.proofs.Places.{lt-or-le, some-at, some-find, sum-ext, sum-zero}
-use Rattle.task.proofs.Bits.{dead-past, dead-zero, live-mapOf, mapOf-lt}
-use Rattle.task.proofs.Maps.{gone-at, gone-none}
+use Rattle.task.proofs.Places.{lt-or-le, some-at, some-find}
+use Rattle.task.proofs.Bits.{dead-past, dead-zero, ext-live, live-mapOf, mapOf-lt}
+use Rattle.task.proofs.Maps.{gone-at}
 use Rattle.table.specs.Tables.{taskAt, pathAt, pathOf}
-use Rattle.table.specs.View.{at, weightAt, weight, liveOf}
-use Rattle.sound.specs.Promises.{Good}
+use Rattle.table.specs.View.{at}
 use Rattle.table.specs.declared.Table.{Table}
 use Rattle.table.proofs.Views.{not-both, at-live, at-dead, live-at}
 use Rattle.plan.specs.Plans.{replyOf}
-use Rattle.engine.specs.Calls.{messageOf, startOf, finishOf, totalResetOf}
+use Rattle.engine.specs.Promises.{EndsNothing}
 use Rattle.engine.specs.declared.Outcome.{Outcome}
 use Rattle.engine.proofs.Endings.{message-gone, start-gone, finish-gone, reset-gone}
 use Rattle.history.specs.Trace.{Event, Message, Start, Finish, TotalReset, Label, Effect, Fate, stays, becomes, ended, fateOf, finishReplied, effectOf}
 use Rattle.history.specs.Demand.{Engine}
-use Rattle.history.specs.Drives.{engine, ByDrive}
-use Rattle.history.specs.Ended.{Lists, idsFrom, EveryTableLists, Made, fateBy, EndedIsExact, SameCommand, NothingGoesSilently, finishes, Stopped, StopsIsExact, EndedAreItsOwn, SaysWhatItEnded}
+use Rattle.history.specs.Drives.{leftAfter, engine, ByDrive}
+use Rattle.history.specs.Ended.{Lists, idsFrom, EveryTableLists, Made, fateBy, SameCommand, finishes, Stopped, EndedAreItsOwn, SaysWhatItEnded}
 use Rattle.history.proofs.Nth.{same-element}
 use Rattle.history.proofs.Fates.{goes-on-as}
-use Rattle.history.proofs.Kept.{leftOf, Done}
+use Rattle.history.proofs.Kept.{remainsOf, Done}
 use Rattle.history.proofs.Calls.{message-done, start-done, finish-done, reset-done}
 use Rattle.history.proofs.Stopping.{runsOf, runningIn, message-stops, start-stops, finish-stops, reset-stops}
 use Rattle.history.proofs.Others.{others-stay}
@@ -64,15 +62,15 @@ every-table-lists t = record {
 
 -- ---- what the engine did is what the trace says
 
-pub done-by : (ids : List ℕ) (ev : Event) (t : Table) (o : Outcome) (left : List ℕ) → Made Engine ids ev t o left → Done (effectOf ids ev (o .answer)) t (o .table)
+pub done-by : (ids : List ℕ) (ev : Event) (t : Table) (o : Outcome) (left : List ℕ) → Lists ids t → Made Engine ev t o left → Done (effectOf ids ev (o .answer)) t (o .table)
 unfolding engine
-done-by ids ev t o left x = rw (as-drive ev t o left (x .call)) (by-event ev)
+done-by ids ev t o left names x = rw (as-drive ev t o left (x .call)) (by-event ev)
   where
     by-event : (ev : Event) → Done (effectOf ids ev (engine ev t .answer)) t (engine ev t .table)
-    by-event (Message m buf) = message-done ids t (x .good) (x .lists .count) (x .lists .each) m buf
-    by-event (Start unit) = start-done ids t (x .good) (x .lists .count) (x .lists .each) unit
-    by-event (Finish arrival status sense transferred buf) = finish-done ids t (x .good) (x .lists .count) (x .lists .each) arrival status sense transferred buf
-    by-event TotalReset = reset-done ids t (x .good) (x .lists .count) (x .lists .each)
+    by-event (Message m buf) = message-done ids t (x .good) (names .count) (names .each) m buf
+    by-event (Start unit) = start-done ids t (x .good) (names .count) (names .each) unit
+    by-event (Finish arrival status sense transferred buf) = finish-done ids t (x .good) (names .count) (names .each) arrival status sense transferred buf
+    by-event TotalReset = reset-done ids t (x .good) (names .count) (names .each)
 
 -- and what left the live map is `ended`, on any table
 pub gone-by : (ev : Event) (t : Table) (o : Outcome) (left : List ℕ) → Engine ev t o left → o .ended ≡ gone (t .live) (o .table .live)
@@ -88,22 +86,22 @@ gone-by ev t o left c = rw (as-drive ev t o left c) (by-event ev)
 -- ---- 1 and 2: a bit of `ended`, by what is in the record before and after
 
 -- what a fate leaves: nothing where the command is ended, and else the command still
-left-none : (a : Task) (x : Fate) → leftOf a x ≡ none → (how : Label) × (x ≡ ended how)
+left-none : (a : Task) (x : Fate) → remainsOf a x ≡ none → (how : Label) × (x ≡ ended how)
 left-none a stays e = absurd (not-both e refl)
 left-none a (becomes b) e = absurd (not-both e refl)
 left-none a (ended how) e = (how, refl)
 
-left-some : (effect : Effect) (a b : Task) → leftOf a (fateOf effect a) ≡ some b → SameCommand a b
+left-some : (effect : Effect) (a b : Task) → remainsOf a (fateOf effect a) ≡ some b → SameCommand a b
 left-some effect a b = cases (fateOf effect a) refl
   where
-    cases : (x : Fate) → fateOf effect a ≡ x → leftOf a x ≡ some b → SameCommand a b
+    cases : (x : Fate) → fateOf effect a ≡ x → remainsOf a x ≡ some b → SameCommand a b
     cases stays f e = rw (same-element refl e) (record { path = refl; tag = refl; unit = refl; kind = refl; arrival = refl; sequel = refl })
     cases (becomes c) f e =
         let g = goes-on-as effect a c f in
         rw (← same-element refl e) (record { path = g .0; tag = g .1; unit = g .2; kind = g .3; arrival = g .4; sequel = g .5 })
     cases (ended how) f e = absurd (not-both refl e)
 
-module _ (ids : List ℕ) (ev : Event) (t : Table) (o : Outcome) (left : List ℕ) (x : Made Engine ids ev t o left) where
+module _ (ev : Event) (t : Table) (o : Outcome) (left : List ℕ) (x : Made Engine ev t o left) where
   abbrev u : Table
   u = o .table
 
@@ -131,23 +129,28 @@ module _ (ids : List ℕ) (ev : Event) (t : Table) (o : Outcome) (left : List �
   bit-of-live : (i : ℕ) (a b : Task) → i < 64 → at t i ≡ some a → at u i ≡ some b → isLive (o .ended) i ≡ false
   bit-of-live i a b l e d = bit i l ∙ rw (live-at t i e .0, live-at u i d .0) refl
 
-  pub follows : (i : ℕ) (a : Task) → i < 64 → at t i ≡ some a → at u i ≡ leftOf a (fateBy ids ev o a)
-  follows = done-by ids ev t o left x .follows
+  module _ (ids : List ℕ) (names : Lists ids t) where
+    pub follows : (i : ℕ) (a : Task) → i < 64 → at t i ≡ some a → at u i ≡ remainsOf a (fateBy ids ev o a)
+    follows = done-by ids ev t o left names x .follows
 
-  pub set : (i : ℕ) → isLive (o .ended) i ≡ true → (i < 64) × (a : Task) × (how : Label) × (at t i ≡ some a) × (fateBy ids ev o a ≡ ended how)
-  set i e =
-      let b = bit-set i e in
-      let f = left-none (taskAt t i) (fateBy ids ev o (taskAt t i)) (sym (follows i (taskAt t i) (b .0) (b .1)) ∙ b .2) in
-      (b .0, taskAt t i, f .0, b .1, f .1)
+    pub set : (i : ℕ) → isLive (o .ended) i ≡ true → (i < 64) × (a : Task) × (how : Label) × (at t i ≡ some a) × (fateBy ids ev o a ≡ ended how)
+    set i e =
+        let b = bit-set i e in
+        let f = left-none (taskAt t i) (fateBy ids ev o (taskAt t i)) (sym (follows i (taskAt t i) (b .0) (b .1)) ∙ b .2) in
+        (b .0, taskAt t i, f .0, b .1, f .1)
 
-  all : (i : ℕ) (a : Task) (how : Label) → i < 64 → at t i ≡ some a → fateBy ids ev o a ≡ ended how → isLive (o .ended) i ≡ true
-  all i a how l e f = bit-of-gone i a l e (follows i a l e ∙ ap (leftOf a) f)
+    all : (i : ℕ) (a : Task) (how : Label) → i < 64 → at t i ≡ some a → fateBy ids ev o a ≡ ended how → isLive (o .ended) i ≡ true
+    all i a how l e f = bit-of-gone i a l e (follows i a l e ∙ ap (remainsOf a) f)
 
-  pub silent : (i : ℕ) (a : Task) → i < 64 → at t i ≡ some a → isLive (o .ended) i ≡ false → (b : Task) × (at u i ≡ some b) × SameCommand a b
-  silent i a l e d = elim (either-way (isLive (u .live) i)) [
-    | inl y ↦ (taskAt u i, at-live u i y, left-some (effectOf ids ev (o .answer)) a (taskAt u i) (sym (follows i a l e) ∙ at-live u i y))
-    | inr y ↦ absurd (never (bit-of-gone i a l e (at-dead u i y)) d)
-  ]
+    pub silent-as : (i : ℕ) (a : Task) → i < 64 → at t i ≡ some a → isLive (o .ended) i ≡ false → (b : Task) × (at u i ≡ some b) × SameCommand a b
+    silent-as i a l e d = elim (either-way (isLive (u .live) i)) [
+      | inl y ↦ (taskAt u i, at-live u i y, left-some (effectOf ids ev (o .answer)) a (taskAt u i) (sym (follows i a l e) ∙ at-live u i y))
+      | inr y ↦ absurd (never (bit-of-gone i a l e (at-dead u i y)) d)
+    ]
+
+  -- by the table's own ids
+  silent : (i : ℕ) (a : Task) → i < 64 → at t i ≡ some a → isLive (o .ended) i ≡ false → (b : Task) × (at u i ≡ some b) × SameCommand a b
+  silent = silent-as (idsFrom t 0 (t .count)) (every-table-lists t)
 
 -- ---- 3: the units that have to stop
 
@@ -189,8 +192,8 @@ finish-named arrival transferred (some (reply.Status tag status sense)) a how e 
 finish-named arrival transferred (some (reply.Invalid tag)) a how e = absurd (never (ap isEnded e) refl)
 
 -- nothing has to stop by a finish; by all else the units on which a task of `ended` ran
-module _ (ids : List ℕ) (t : Table) (o : Outcome) (left : List ℕ) where
-  module _ (ev : Event) (x : Made Engine ids ev t o left) (calm : (a : Task) → finishes ev a ≡ false) (by-ended : o .stops ≡ runningIn t (o .ended)) where
+module _ (t : Table) (o : Outcome) (left : List ℕ) where
+  module _ (ev : Event) (x : Made Engine ev t o left) (calm : (a : Task) → finishes ev a ≡ false) (by-ended : o .stops ≡ runningIn t (o .ended)) where
     calm-set : (unit : ℕ) → isLive (o .stops) unit ≡ true → (unit < 8) × (i : ℕ) × (a : Task) × Stopped ev t o unit i a
     calm-set unit k =
         let r = unit-set t o by-ended unit k in
@@ -198,7 +201,7 @@ module _ (ids : List ℕ) (t : Table) (o : Outcome) (left : List ℕ) where
           r .0,
           i,
           taskAt t i,
-          record { below = r .2; here = bit-set ids ev t o left x i (r .4) .1; ran = r .3; there = r .5; in-ended = r .4; not-finished = calm (taskAt t i) },
+          record { below = r .2; here = bit-set ev t o left x i (r .4) .1; ran = r .3; there = r .5; in-ended = r .4; not-finished = calm (taskAt t i) },
         )
 
     calm-all : (unit i : ℕ) (a : Task) → unit < 8 → Stopped ev t o unit i a → isLive (o .stops) unit ≡ true
@@ -206,7 +209,7 @@ module _ (ids : List ℕ) (t : Table) (o : Outcome) (left : List ℕ) where
         let same : taskAt t i ≡ a = live-at t i (s .here) .1 in
         unit-all t o by-ended unit i l (s .below) (ap (λ (b : Task). isRunning (b .phase)) same ∙ s .ran) (s .in-ended) (ap (λ (b : Task). b .unit) same ∙ s .there)
 
-  stops-set : (ev : Event) → Made Engine ids ev t o left → (unit : ℕ) → isLive (o .stops) unit ≡ true → (unit < 8) × (i : ℕ) × (a : Task) × Stopped ev t o unit i a
+  stops-set : (ev : Event) → Made Engine ev t o left → (unit : ℕ) → isLive (o .stops) unit ≡ true → (unit < 8) × (i : ℕ) × (a : Task) × Stopped ev t o unit i a
   stops-set (Message m buf) x unit k = calm-set (Message m buf) x (λ _. refl) (rw (x .call .outcome) (message-stops t (x .good) m (length buf))) unit k
   stops-set (Start lun) x unit k = calm-set (Start lun) x (λ _. refl) (rw (x .call) (start-stops t lun)) unit k
   stops-set (Finish arrival status sense transferred buf) x unit k =
@@ -214,11 +217,11 @@ module _ (ids : List ℕ) (t : Table) (o : Outcome) (left : List ℕ) where
       absurd (never k (ap (λ (m : ℕ). isLive m unit) z ∙ dead-zero unit))
   stops-set TotalReset x unit k = calm-set TotalReset x (λ _. refl) (rw (x .call) (reset-stops t)) unit k
 
-  stops-all : (ev : Event) → Made Engine ids ev t o left → (unit i : ℕ) (a : Task) → unit < 8 → Stopped ev t o unit i a → isLive (o .stops) unit ≡ true
+  stops-all : (ev : Event) → Made Engine ev t o left → (unit i : ℕ) (a : Task) → unit < 8 → Stopped ev t o unit i a → isLive (o .stops) unit ≡ true
   stops-all (Message m buf) x unit i a l s = calm-all (Message m buf) x (λ _. refl) (rw (x .call .outcome) (message-stops t (x .good) m (length buf))) unit i a l s
   stops-all (Start lun) x unit i a l s = calm-all (Start lun) x (λ _. refl) (rw (x .call) (start-stops t lun)) unit i a l s
   stops-all (Finish arrival status sense transferred buf) x unit i a l s =
-      let f = set ids (Finish arrival status sense transferred buf) t o left x i (s .in-ended) in
+      let f = set (Finish arrival status sense transferred buf) t o left x (idsFrom t 0 (t .count)) (every-table-lists t) i (s .in-ended) in
       let same : f .1 ≡ a = same-element (f .3) (s .here) in
       absurd (never (ap (λ (b : Task). eqb (b .arrival) arrival) (sym same) ∙ finish-named arrival transferred (replyOf (o .answer)) (f .1) (f .2) (f .4)) (s .not-finished))
   stops-all TotalReset x unit i a l s = calm-all TotalReset x (λ _. refl) (rw (x .call) (reset-stops t)) unit i a l s
@@ -226,17 +229,65 @@ module _ (ids : List ℕ) (t : Table) (o : Outcome) (left : List ℕ) where
 -- ---- 4: whose they are
 
 its-own : EndedAreItsOwn Engine
-its-own ids m buf t o left path tag w x says r i a e here = elim (ℕ-discrete (a .path) (pathOf t path)) [
+its-own m buf t o left path tag w x says r i a e here = elim (ℕ-discrete (a .path) (pathOf t path)) [
   | yes q ↦ q
   | no n ↦
-      let l : i < 64 = bit-set ids (Message m buf) t o left x i e .0 in
-      absurd (never e (bit-of-live ids (Message m buf) t o left x i a a l here (others-stay t m buf o left path tag w (x .good) (x .call) says r i a l here n)))
+      let l : i < 64 = bit-set (Message m buf) t o left x i e .0 in
+      absurd (never e (bit-of-live (Message m buf) t o left x i a a l here (others-stay t m buf o left path tag w (x .good) (x .call) says r i a l here n)))
 ]
+
+-- ---- where nothing was ended
+
+-- a map of so many bits with none set
+none-set : (n map : ℕ) → map < 2 ^ n → ((i : ℕ) → i < n → isLive map i ≡ false) → map ≡ 0
+none-set n map l h = ext-live n map 0 l (pow-pos n) (λ i below. h i below ∙ sym (dead-zero i))
+
+stops-lt : (ev : Event) (t : Table) (o : Outcome) (left : List ℕ) → Made Engine ev t o left → o .stops < 2 ^ 8
+unfolding runningIn
+stops-lt (Message m buf) t o left x = rw (x .call .outcome) (rw (message-stops t (x .good) m (length buf)) (mapOf-lt 8 _))
+stops-lt (Start unit) t o left x = rw (x .call) (rw (start-stops t unit) (mapOf-lt 8 _))
+stops-lt (Finish arrival status sense transferred buf) t o left x = rw (x .call .outcome) (rw (finish-stops t arrival status sense transferred (length buf)) (pow-pos 8))
+stops-lt TotalReset t o left x = rw (x .call) (rw (reset-stops t) (mapOf-lt 8 _))
+
+clear : {b : Bool} → (b ≡ true → ⊥) → b ≡ false
+clear {b} n = elim (either-way b) [ inl y ↦ absurd (n y) | inr y ↦ y ]
+
+none-ended : (ids : List ℕ) (ev : Event) (t : Table) (o : Outcome) (left : List ℕ) → Lists ids t → Made Engine ev t o left
+    → ((i : ℕ) (a : Task) (how : Label) → i < 64 → at t i ≡ some a → fateBy ids ev o a ≡ ended how → ⊥) → EndsNothing o
+none-ended ids ev t o left names x nobody =
+    let unset : (i : ℕ) → isLive (o .ended) i ≡ true → ⊥ = λ i e. let f = set ev t o left x ids names i e in nobody i (f .1) (f .2) (f .0) (f .3) (f .4) in
+    record {
+      ended = none-set 64 (o .ended) (ended-lt ev t o left x) (λ i _. clear (unset i));
+      stops = none-set 8 (o .stops) (stops-lt ev t o left x) (λ unit _. clear (λ e. let s = stops-set t o left ev x unit e in unset (s .1) (s .3 .in-ended)));
+    }
 
 pub says-what-it-ended : SaysWhatItEnded Engine
 says-what-it-ended = record {
-  ended = record { set = set; all = all };
+  ended = record {
+    set = λ ids ev t o left names x. set ev t o left x ids names;
+    all = λ ids ev t o left names x. all ev t o left x ids names;
+    none = none-ended;
+  };
   silent = silent;
-  stops = record { set = λ ids ev t o left. stops-set ids t o left ev; all = λ ids ev t o left. stops-all ids t o left ev };
+  stops = record { set = λ ev t o left. stops-set t o left ev; all = λ ev t o left. stops-all t o left ev };
   own = its-own;
 }
+
+-- and of the engine as a drive, which leaves the buffer as its answer asks
+pub engine-says : SaysWhatItEnded (ByDrive engine)
+engine-says = record {
+  ended = record {
+    set = λ ids ev t o left names x. says-what-it-ended .ended .set ids ev t o (leftAfter ev (o .answer)) names (as-made ev t o left x);
+    all = λ ids ev t o left names x. says-what-it-ended .ended .all ids ev t o (leftAfter ev (o .answer)) names (as-made ev t o left x);
+    none = λ ids ev t o left names x. says-what-it-ended .ended .none ids ev t o (leftAfter ev (o .answer)) names (as-made ev t o left x);
+  };
+  silent = λ ev t o left x. says-what-it-ended .silent ev t o (leftAfter ev (o .answer)) (as-made ev t o left x);
+  stops = record {
+    set = λ ev t o left x. says-what-it-ended .stops .set ev t o (leftAfter ev (o .answer)) (as-made ev t o left x);
+    all = λ ev t o left x. says-what-it-ended .stops .all ev t o (leftAfter ev (o .answer)) (as-made ev t o left x);
+  };
+  own = λ m buf t o left path tag w x. says-what-it-ended .own m buf t o (leftAfter (Message m buf) (o .answer)) path tag w (as-made (Message m buf) t o left x);
+}
+  where
+    as-made : (ev : Event) (t : Table) (o : Outcome) (left : List ℕ) → Made (ByDrive engine) ev t o left → Made Engine ev t o (leftAfter ev (o .answer))
+    as-made ev t o left x = record { good = x .good; call = rw (x .call) (meets-contract ev t) }

@@ -20,7 +20,7 @@ use Rattle.history.specs.Ledger.{Entry, isOpen, newEntry, afterFate, aft
 
 -- a fact about a command's fate, from each sort of fate: what goes on is the command still, save its phase and
 -- position
-pub fate-ways : (P : Fate → Type 0) (effect : Effect) (a : Task) → P stays → ((phase : Phase) (position : ℕ) → P (becomes (inPhase phase position a)))
+fate-ways : (P : Fate → Type 0) (effect : Effect) (a : Task) → P stays → ((phase : Phase) (position : ℕ) → P (becomes (inPhase phase position a)))
     → ((how : Label) → P (ended how)) → P (fateOf effect a)
 unfolding fateOf
 fate-ways P Nothing a s b d = s

@@ -79,10 +79,10 @@ endsByStatus (becomes b) = false
 endsByStatus (ended how) = countsAsStatus how
 
 -- what is in a record after the fate of its task a
-abbrev pub leftOf : Task → Fate → Option Task
-leftOf a stays = some a
-leftOf a (becomes b) = some b
-leftOf a (ended how) = none
+abbrev pub remainsOf : Task → Fate → Option Task
+remainsOf a stays = some a
+remainsOf a (becomes b) = some b
+remainsOf a (ended how) = none
 
 -- a command takes the next number; what ends by status has the number of a live task
 pub record Sure (effect : Effect) (t : Table) : Type 0 where
@@ -96,7 +96,7 @@ pub record Done (effect : Effect) (t u : Table) : Type 0 where
   pub weighs : (f : Task → ℕ) → weight f u ≡ weight (weighed effect f) t + added effect f
   pub sure : Sure effect t
   -- each live record has after it what its task's fate leaves, at its place
-  pub follows : (i : ℕ) (a : Task) → i < 64 → at t i ≡ some a → at u i ≡ leftOf a (fateOf effect a)
+  pub follows : (i : ℕ) (a : Task) → i < 64 → at t i ≡ some a → at u i ≡ remainsOf a (fateOf effect a)
 
 -- ---- what an effect does to an entry's weights
 

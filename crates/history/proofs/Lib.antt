@@ -1,5 +1,5 @@
--- The theorem of demand 3, whose commands a message ends, and the drives that break the demand; then what these stand
--- on.
+-- The theorem of demand 3, whose commands a message ends, what each call says that it ended, and the drives that break
+-- the demand or say it wrongly; then what these stand on.
 pub mod Demand
 pub mod Traces
 pub mod Others

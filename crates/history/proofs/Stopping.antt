@@ -1,6 +1,6 @@
 -- The units that have to stop: `stops` is the units on which a task of `ended` ran, by any call but a finish. Assumes
 -- nothing.
---     message-stops, start-stops, reset-stops      on a sound table;        finish-stops      nothing has to stop
+--     message-stops      on a sound table;        start-stops, reset-stops      on any;        finish-stops      nothing has to stop
 use Prim.Native.Nat.{ℕ, _^_, _<_}
 use mathlib.Core.Path.{_≡_, refl, sym, ap, _∙_}
 use mathlib.Core.Bool.{Bool, true, false, not, _&&_, and-false}
@@ -100,7 +100,7 @@ with-keeps : (live k i : ℕ) → isLive live i ≡ true → isLive (withBit liv
 unfolding withBit
 with-keeps live k i e = cond-ind (λ (m : ℕ). isLive m i ≡ true) (ltb k 64) (λ _. live-or live (2 ^ k) i ∙ rw e refl) (λ _. e)
 
--- ---- what `stops` is, on a sound table
+-- ---- what `stops` is
 
 abbrev Stops : Table → Outcome → Type 0
 Stops t o = o .stops ≡ runningIn t (o .ended)

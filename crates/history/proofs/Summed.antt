@@ -1,11 +1,11 @@
 -- What the calls ended, summed over the calls after a setup, beside what the trace accepted and what is live. Assumes
 -- nothing.
 use Prim.Native.Nat.{ℕ, _+_, _<_, _^_}
-use mathlib.Core.Path.{_≡_, refl, sym, ap, subst, _∙_}
-use mathlib.Core.Bool.{Bool, true, false, _&&_}
+use mathlib.Core.Path.{_≡_, refl, sym, ap, _∙_}
+use mathlib.Core.Bool.{true, _&&_}
 use mathlib.Core.List.{List, [], _∷_}
 use mathlib.Core.Logic.{inl, inr}
-use mathlib.Core.Option.{none, some}
+use mathlib.Core.Option.{some}
 use native.Mathlib.Omega.{arith}
 use lib.ListN.{length}
 use lib.Dec.{eqb}
@@ -33,11 +33,11 @@ use Rattle.history.specs.Drives.{callsOf, engine}
 use Rattle.history.specs.Ended.{Lists, Made, endedOf, endedAlong, EndedAddUp}
 use Rattle.history.proofs.Nth.{same-element}
 use Rattle.history.proofs.Totals.{sum-add}
-use Rattle.history.proofs.Kept.{fated, weighed, leftOf}
+use Rattle.history.proofs.Kept.{fated, weighed, remainsOf}
 use Rattle.history.proofs.Agreeing.{accepted-path}
 use Rattle.history.proofs.Calls.{refused-nothing}
 use Rattle.history.proofs.Demand.{tied-fresh, zero-setup, unsound, as-drive, demand-three, meets-contract}
-use Rattle.history.proofs.Ended.{done-by, gone-by, bit, follows, set, silent}
+use Rattle.history.proofs.Ended.{done-by, gone-by, bit, follows, set, silent-as}
 
 -- ---- one call
 
@@ -46,7 +46,7 @@ abbrev ofPath : ℕ → Task → ℕ
 ofPath p a = one (isFrom p a)
 
 -- what a task that goes on weighs after its fate
-left-weighs : (f : Task → ℕ) (a b : Task) (x : Fate) → leftOf a x ≡ some b → fated f a x ≡ f b
+left-weighs : (f : Task → ℕ) (a b : Task) (x : Fate) → remainsOf a x ≡ some b → fated f a x ≡ f b
 left-weighs f a b stays e = ap f (same-element refl e)
 left-weighs f a b (becomes c) e = ap f (same-element refl e)
 left-weighs f a b (ended how) e = absurd (not-both refl e)
@@ -55,7 +55,7 @@ left-weighs f a b (ended how) e = absurd (not-both refl e)
 abbrev Balanced : List ℕ → ℕ → Event → Table → Outcome → Type 0
 Balanced ids p ev t o = liveOf p t + one (acceptsFrom p (effectOf ids ev (o .answer))) ≡ endedOf p t o + liveOf p (o .table)
 
-module _ (ids : List ℕ) (ev : Event) (t : Table) (o : Outcome) (left : List ℕ) (x : Made Engine ids ev t o left) (p : ℕ) where
+module _ (ids : List ℕ) (ev : Event) (t : Table) (o : Outcome) (left : List ℕ) (names : Lists ids t) (x : Made Engine ev t o left) (p : ℕ) where
   abbrev effect : Effect
   effect = effectOf ids ev (o .answer)
 
@@ -63,7 +63,7 @@ module _ (ids : List ℕ) (ev : Event) (t : Table) (o : Outcome) (left : List �
   parted : (i : ℕ) → i < 64 → weightAt (ofPath p) (at t i) ≡ weightAt (weighed effect (ofPath p)) (at t i) + one (isLive (o .ended) i && isFrom p (taskAt t i))
   parted i l = elim (either-way (isLive (t .live) i)) [
     | inl y ↦ rw (at-live t i y) (live-parted y)
-    | inr y ↦ rw (at-dead t i y, bit ids ev t o left x i l, y) refl
+    | inr y ↦ rw (at-dead t i y, bit ev t o left x i l, y) refl
   ]
     where
       a : Task
@@ -72,14 +72,14 @@ module _ (ids : List ℕ) (ev : Event) (t : Table) (o : Outcome) (left : List �
       live-parted : isLive (t .live) i ≡ true → ofPath p (taskAt t i) ≡ weighed effect (ofPath p) (taskAt t i) + one (isLive (o .ended) i && isFrom p (taskAt t i))
       live-parted y = elim (either-way (isLive (o .ended) i)) [
         | inl e ↦
-            let f = set ids ev t o left x i e in
+            let f = set ev t o left x ids names i e in
             let same : f .1 ≡ a = same-element (f .3) (at-live t i y) in
             let fate : fateOf effect a ≡ ended (f .2) = ap (fateOf effect) (sym same) ∙ f .4 in
             rw (e, fate) (omega arith)
         | inr e ↦
-            let s = silent ids ev t o left x i a l (at-live t i y) e in
+            let s = silent-as ev t o left x ids names i a l (at-live t i y) e in
             let w : weighed effect (ofPath p) a ≡ ofPath p (s .0) =
-            left-weighs (ofPath p) a (s .0) (fateOf effect a) (sym (follows ids ev t o left x i a l (at-live t i y)) ∙ s .1) in
+            left-weighs (ofPath p) a (s .0) (fateOf effect a) (sym (follows ev t o left x ids names i a l (at-live t i y)) ∙ s .1) in
             let same : ofPath p (s .0) ≡ ofPath p a = ap (λ (q : ℕ). one (eqb q p)) (s .2 .path) in
             rw e (omega (arith, w, same))
       ]
@@ -91,7 +91,7 @@ module _ (ids : List ℕ) (ev : Event) (t : Table) (o : Outcome) (left : List �
         arith,
         sum-ext 64 _ _ parted,
         sum-add 64 (λ i. weightAt (weighed effect (ofPath p)) (at t i)) (λ i. one (isLive (o .ended) i && isFrom p (taskAt t i))),
-        done-by ids ev t o left x .weighs (ofPath p),
+        done-by ids ev t o left names x .weighs (ofPath p),
         accepted-path p effect,
       )
 
@@ -121,9 +121,9 @@ good-after TotalReset t g = reset-keeps t g
 
 fitting-step : (ids : List ℕ) (p : ℕ) (ev : Event) (t : Table) (o : Outcome) (left : List ℕ) → Fitting ids t → Engine ev t o left → Balanced ids p ev t o × Fitting ids (o .table)
 fitting-step ids p ev t o left f c =
-    let x : Made Engine ids ev t o left = record { good = f .good; lists = f .lists; call = c } in
-    let d = done-by ids ev t o left x in (
-      balanced ids ev t o left x p,
+    let x : Made Engine ev t o left = record { good = f .good; call = c } in
+    let d = done-by ids ev t o left (f .lists) x in (
+      balanced ids ev t o left (f .lists) x p,
       record {
         good = rw (as-drive ev t o left c) (good-after ev t (f .good));
         lists = record { count = d .count ∙ f .lists .count; each = λ q below. d .ids q ∙ f .lists .each q (omega (arith, d .count)) };

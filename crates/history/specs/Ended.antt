@@ -1,5 +1,5 @@
 -- What a call says that it ended, beside the trace: the maps `ended` and `stops` of an outcome, and the fates of the
--- commands in the table that was handed in. Proved in proofs/Ended.antt.
+-- commands in the table that was handed in. Proved in proofs/Ended.antt, the sums in proofs/Summed.antt.
 use Prim.Native.Nat.{ℕ, zero, suc, _+_, _<_, _^_}
 use mathlib.Core.Path.{_≡_}
 use mathlib.Core.Bool.{Bool, true, false, _&&_}
@@ -20,10 +20,11 @@ use Rattle.plan.specs.Plans.{askedOf}
 use Rattle.plan.specs.declared.Request.{Request}
 use Rattle.plan.specs.declared.Asked.the-variants.{By}
 use Rattle.engine.specs.Calls.{SetupContract}
+use Rattle.engine.specs.Promises.{EndsNothing}
 use Rattle.engine.specs.declared.Outcome.{Outcome}
 use Rattle.history.specs.Trace.{Event, Message, Start, Finish, TotalReset, Label, countsAsStatus, countsAsManagement, countsAsReset, Fate, ended, fateOf, effectOf}
 use Rattle.history.specs.Ledger.{ledger, isFrom, acceptedFrom, endedFrom}
-use Rattle.history.specs.Demand.{Call, told, Contract, Engine, Chained, lastTable, mayReachOthers}
+use Rattle.history.specs.Demand.{Call, told, Contract, Chained, lastTable, mayReachOthers}
 
 -- ---- a call on a sound table
 
@@ -40,10 +41,9 @@ idsFrom t p (suc n) = pathAt t p .id ∷ idsFrom t (suc p) n
 abbrev pub EveryTableLists : Type 0
 EveryTableLists = (t : Table) → Lists (idsFrom t 0 (t .count)) t
 
--- the call for an event met its contract, on a sound table with these ids
-pub record Made (C : Contract) (ids : List ℕ) (ev : Event) (t : Table) (o : Outcome) (left : List ℕ) : Type 0 where
+-- the call for an event met its contract, on a sound table
+pub record Made (C : Contract) (ev : Event) (t : Table) (o : Outcome) (left : List ℕ) : Type 0 where
   pub good : Good t
-  pub lists : Lists ids t
   pub call : C ev t o left
 
 -- the fate of a command under an event and its answer: the trace's word, which looks at no table and at no map
@@ -53,10 +53,13 @@ fateBy ids ev o a = fateOf (effectOf ids ev (o .answer)) a
 -- ---- 1. a bit of `ended` is set exactly where record i was live and its command was ended
 
 pub record EndedIsExact (C : Contract) : Type 0 where
-  pub set : (ids : List ℕ) (ev : Event) (t : Table) (o : Outcome) (left : List ℕ) → Made C ids ev t o left
+  pub set : (ids : List ℕ) (ev : Event) (t : Table) (o : Outcome) (left : List ℕ) → Lists ids t → Made C ev t o left
       → (i : ℕ) → isLive (o .ended) i ≡ true → (i < 64) × (a : Task) × (how : Label) × (at t i ≡ some a) × (fateBy ids ev o a ≡ ended how)
-  pub all : (ids : List ℕ) (ev : Event) (t : Table) (o : Outcome) (left : List ℕ) → Made C ids ev t o left
+  pub all : (ids : List ℕ) (ev : Event) (t : Table) (o : Outcome) (left : List ℕ) → Lists ids t → Made C ev t o left
       → (i : ℕ) (a : Task) (how : Label) → i < 64 → at t i ≡ some a → fateBy ids ev o a ≡ ended how → isLive (o .ended) i ≡ true
+  -- and where no live record's command was ended, both maps are 0
+  pub none : (ids : List ℕ) (ev : Event) (t : Table) (o : Outcome) (left : List ℕ) → Lists ids t → Made C ev t o left
+      → ((i : ℕ) (a : Task) (how : Label) → i < 64 → at t i ≡ some a → fateBy ids ev o a ≡ ended how → ⊥) → EndsNothing o
 
 -- ---- 2. nothing goes silently: a live record whose bit is clear is live after the call, at its place, and is the command that it was
 
@@ -69,7 +72,7 @@ pub record SameCommand (a b : Task) : Type 0 where
   pub sequel : b .sequel ≡ a .sequel
 
 abbrev pub NothingGoesSilently : Contract → Type 0
-NothingGoesSilently C = (ids : List ℕ) (ev : Event) (t : Table) (o : Outcome) (left : List ℕ) → Made C ids ev t o left
+NothingGoesSilently C = (ev : Event) (t : Table) (o : Outcome) (left : List ℕ) → Made C ev t o left
     → (i : ℕ) (a : Task) → i < 64 → at t i ≡ some a → isLive (o .ended) i ≡ false → (b : Task) × (at (o .table) i ≡ some b) × SameCommand a b
 
 -- ---- 3. `stops` has exactly the units whose running task is in `ended` and was not finished by this call
@@ -81,7 +84,7 @@ finishes (Start unit) a = false
 finishes (Finish arrival status sense transferred buf) a = eqb (a .arrival) arrival
 finishes TotalReset a = false
 
--- the task a in record i ran on the unit, one of the eight, the call ended it, and it was not its finish
+-- the task a in record i ran on the unit; the call ended it, and was not its finish
 pub record Stopped (ev : Event) (t : Table) (o : Outcome) (unit i : ℕ) (a : Task) : Type 0 where
   pub below : i < 64
   pub here : at t i ≡ some a
@@ -90,17 +93,18 @@ pub record Stopped (ev : Event) (t : Table) (o : Outcome) (unit i : ℕ) (a : Ta
   pub in-ended : isLive (o .ended) i ≡ true
   pub not-finished : finishes ev a ≡ false
 
+-- a drive has the units 0 to 7, and `stops` a bit for each
 pub record StopsIsExact (C : Contract) : Type 0 where
-  pub set : (ids : List ℕ) (ev : Event) (t : Table) (o : Outcome) (left : List ℕ) → Made C ids ev t o left
+  pub set : (ev : Event) (t : Table) (o : Outcome) (left : List ℕ) → Made C ev t o left
       → (unit : ℕ) → isLive (o .stops) unit ≡ true → (unit < 8) × (i : ℕ) × (a : Task) × Stopped ev t o unit i a
-  pub all : (ids : List ℕ) (ev : Event) (t : Table) (o : Outcome) (left : List ℕ) → Made C ids ev t o left
+  pub all : (ev : Event) (t : Table) (o : Outcome) (left : List ℕ) → Made C ev t o left
       → (unit i : ℕ) (a : Task) → unit < 8 → Stopped ev t o unit i a → isLive (o .stops) unit ≡ true
 
 -- ---- 4. whose: with ABORT TASK, ABORT TASK SET, CLEAR ACA and CONFIRM STATUS every bit of `ended` is a record of the sender's own path
 
 abbrev pub EndedAreItsOwn : Contract → Type 0
-EndedAreItsOwn C = (ids : List ℕ) (m buf : List ℕ) (t : Table) (o : Outcome) (left : List ℕ) (path tag : ℕ) (w : Request)
-    → Made C ids (Message m buf) t o left → askedOf (readOf m) ≡ By path tag w → mayReachOthers w ≡ false
+EndedAreItsOwn C = (m buf : List ℕ) (t : Table) (o : Outcome) (left : List ℕ) (path tag : ℕ) (w : Request)
+    → Made C (Message m buf) t o left → askedOf (readOf m) ≡ By path tag w → mayReachOthers w ≡ false
     → (i : ℕ) (a : Task) → isLive (o .ended) i ≡ true → at t i ≡ some a → a .path ≡ pathOf t path
 
 -- the four, of the contracts of a drive's calls

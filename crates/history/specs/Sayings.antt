@@ -1,12 +1,14 @@
 -- Drives that do what the engine does and say wrongly what they ended: each hands back the engine's outcome with one of
 -- the two maps wrong. Proved in proofs/Sayings.antt.
 use Prim.Native.Nat.{ℕ, _+_}
-use mathlib.Core.List.{List}
+use mathlib.Core.Bool.{_&&_}
+use lib.Dec.{eqb}
 use Rattle.wire.specs.Messages.{readOf}
-use Rattle.task.specs.Map.{gone}
-use Rattle.task.specs.Selections.{fromOn, runningAs}
+use Rattle.task.specs.Index.{mapOf}
+use Rattle.task.specs.Map.{isLive, gone}
+use Rattle.task.specs.Selections.{runningAs}
 use Rattle.task.specs.declared.select.Selection.{Selection}
-use Rattle.table.specs.Tables.{pathOf, endedBy}
+use Rattle.table.specs.Tables.{taskAt, picksAt, pathOf}
 use Rattle.table.specs.Steps.{runningAmong}
 use Rattle.table.specs.declared.Table.{Table}
 use Rattle.rules.specs.declared.manage.Order.{Order}
@@ -15,24 +17,40 @@ use Rattle.plan.specs.Plans.{askedOf}
 use Rattle.plan.specs.declared.Request.the-variants.{Command, Manage, Confirm}
 use Rattle.plan.specs.declared.Asked.{Asked}
 use Rattle.plan.specs.declared.Asked.the-variants.{By, Unread}
+use Rattle.plan.specs.declared.Answer.{Answer}
+use Rattle.plan.specs.declared.Answer.the-variants as answer
 use Rattle.engine.specs.declared.Outcome.{Outcome}
-use Rattle.history.specs.Trace.{Event, Message, Start, Finish, TotalReset}
+use Rattle.history.specs.Trace.{Message, Start, Finish, TotalReset}
 use Rattle.history.specs.Drives.{Drive, ByDrive, engine}
 use Rattle.history.specs.Ended.{SaysWhatItEnded}
 
 abbrev pub withMaps : Outcome → ℕ → ℕ → Outcome
 withMaps o ended stops = record { table = o .table; answer = o .answer; ended = ended; to = o .to; stops = stops }
 
--- the records that a selection picks in t
+-- a map where the call is answered by a reply, and else none
+abbrev pub whereReplied : Answer → ℕ → ℕ
+whereReplied answer.Ready map = 0
+whereReplied (answer.Accepted n) map = 0
+whereReplied (answer.Reply r) map = map
+whereReplied (answer.Started offset arrival) map = 0
+whereReplied (answer.Confirmed n) map = 0
+whereReplied (answer.Restarted n) map = 0
+whereReplied answer.Reset map = 0
+whereReplied (answer.Refused n) map = 0
+
+-- the records that a selection picks in t; of a map the records of the path at p
 abbrev pub recordsOf : Table → Selection → ℕ
-recordsOf t s = gone (t .live) (endedBy t s .live)
+recordsOf t s = mapOf 64 (picksAt t s)
+
+abbrev pub ownOf : Table → ℕ → ℕ → ℕ
+ownOf t p map = mapOf 64 (λ i. isLive map i && eqb (taskAt t i .path) p)
 
 -- a finish counts as ended what it leaves waiting to be confirmed
 unfoldable pub countsConfirmed : Drive
 countsConfirmed (Message m buf) t = engine (Message m buf) t
 countsConfirmed (Start unit) t = engine (Start unit) t
 countsConfirmed (Finish arrival status sense transferred buf) t =
-    withMaps (engine (Finish arrival status sense transferred buf) t) (recordsOf t (runningAs arrival)) 0
+    withMaps (engine (Finish arrival status sense transferred buf) t) (whereReplied (engine (Finish arrival status sense transferred buf) t .answer) (recordsOf t (runningAs arrival))) 0
 countsConfirmed TotalReset t = engine TotalReset t
 
 -- a finish has the unit stop
@@ -40,14 +58,15 @@ unfoldable pub stopsAtFinish : Drive
 stopsAtFinish (Message m buf) t = engine (Message m buf) t
 stopsAtFinish (Start unit) t = engine (Start unit) t
 stopsAtFinish (Finish arrival status sense transferred buf) t =
-    withMaps (engine (Finish arrival status sense transferred buf) t) (engine (Finish arrival status sense transferred buf) t .ended) (runningAmong t (runningAs arrival))
+    withMaps (engine (Finish arrival status sense transferred buf) t) (engine (Finish arrival status sense transferred buf) t .ended)
+    (whereReplied (engine (Finish arrival status sense transferred buf) t .answer) (runningAmong t (runningAs arrival)))
 stopsAtFinish TotalReset t = engine TotalReset t
 
 -- CLEAR TASK SET names the sender's tasks alone
 abbrev pub clearsOwn : Table → ℕ → Outcome → Order → Outcome
 clearsOwn t path o (AbortTask tag2) = o
 clearsOwn t path o (AbortTaskSet lun) = o
-clearsOwn t path o (ClearTaskSet lun) = withMaps o (recordsOf t (fromOn (pathOf t path) lun)) (o .stops)
+clearsOwn t path o (ClearTaskSet lun) = withMaps o (ownOf t (pathOf t path) (o .ended)) (o .stops)
 clearsOwn t path o (ClearAca lun) = o
 clearsOwn t path o (UnitReset lun) = o
 clearsOwn t path o TargetReset = o
@@ -74,8 +93,9 @@ namesAccepted (Start unit) t = engine (Start unit) t
 namesAccepted (Finish arrival status sense transferred buf) t = engine (Finish arrival status sense transferred buf) t
 namesAccepted TotalReset t = engine TotalReset t
 
--- none of them says what it ended
+-- none of them says what it ended; the engine as a drive does
 pub record WrongSayings : Type 0 where
+  pub engine-says : SaysWhatItEnded (ByDrive engine)
   pub not-confirmed : SaysWhatItEnded (ByDrive countsConfirmed) → ⊥
   pub not-at-finish : SaysWhatItEnded (ByDrive stopsAtFinish) → ⊥
   pub not-own-alone : SaysWhatItEnded (ByDrive namesOwnAlone) → ⊥

@@ -61,7 +61,7 @@ pub(crate) fn add(t: Tally, a: Answer, reply: &[u8; 64]) -> Tally {
     }
 }
 
-// What a message ended more. The two maps count, so that no compiler can leave them out.
+// What a message ended is added. Both maps count, so that no compiler can leave them out.
 pub(crate) fn add_ended(t: Tally, ended: u64, stops: u8) -> Tally {
     Tally {
         ended: wrapping_add_u64(t.ended, live_count(ended) as u64),

@@ -1,11 +1,11 @@
--- One step of the records, what a finish makes of them, and who has a task. Assumes nothing.
+-- One step of the records, what a finish makes of them, who has a task and where one runs. Assumes nothing.
 --     altered-ways, step-ways      for `search`, the ways out of the functions so named, by the variant
 --     finish-is-step, finish-of-none, finishes      a finish is a change of the units and a step: of a record, of none, and as `Table::finish` makes it
 --     held-loop      for `search`, start and end of the loop that gathers who has a task;        found-more, found-same      its turns, with those of `Gathering`
 --     running-all      the end of the loop that gathers where one runs;        other-as      the paths that have one on a unit
 use Prim.Native.Nat.{ℕ, _+_, _%_, _≤_, _<_}
 use mathlib.Core.Path.{_≡_, refl, sym, _∙_}
-use mathlib.Core.Bool.{Bool, true, false, not, _&&_, _||_, or-true, or-false, and-true, and-false}
+use mathlib.Core.Bool.{Bool, true, false, not, _&&_, or-true, or-false, and-true, and-false}
 use mathlib.Core.List.{List}
 use mathlib.Core.Logic.{inl, inr}
 use native.Mathlib.Nat.{le-antisymm}

@@ -1,4 +1,4 @@
-// Tasks: the scan that the table lends its records to, and who has a task; what is accepted, started, restarted,
+// Tasks: the scan that the table lends its records to, who has a task and where one runs; what is accepted, started, restarted,
 // finished, ended and reset. These are a step of steps.rt each, finish with a change of the units; reset is none.
 ghost use mathlib.Core.Path.{_≡_};
 ghost use Rattle.table.specs.Tables.{taskAt, pickOf, hasRoom, accepted, endedBy, started, restarted, finished, resetOf, othersOn};

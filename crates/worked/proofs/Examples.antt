@@ -1,11 +1,12 @@
--- Page 01's examples, its worked calls, confirmed status and what each order ends, computed. Assumes nothing.
+-- Page 01's examples, its worked calls, confirmed status, what each order ends and says that it ended, computed. Assumes
+-- nothing.
 use mathlib.Core.Path.{refl}
 use Rattle.engine.proofs.Computing.{computing as call}
-use Rattle.worked.specs.Examples.{quiet, tasksFrom, full, examples, waits, underway, unconfirmed, again8, confirmations, shared, orders, ExamplesHold, WorkedCalls, ConfirmationsHold, ConfirmedCalls, OrdersEnd}
+use Rattle.worked.specs.Examples.{quiet, tasksFrom, full, examples, waits, underway, unconfirmed, again8, confirmations, shared, orders, busy, ExamplesHold, WorkedCalls, ConfirmationsHold, ConfirmedCalls, OrdersEnd, OrdersSay}
 
 -- the definitions of the calls and of the examples
 unfoldable computing : Unit {0}
-unfolding call quiet tasksFrom full examples waits underway unconfirmed again8 confirmations shared orders
+unfolding call quiet tasksFrom full examples waits underway unconfirmed again8 confirmations shared orders busy
 computing = tt
 
 pub examples-hold : ExamplesHold
@@ -27,3 +28,7 @@ confirmed-calls = refl
 pub orders-end : OrdersEnd
 unfolding computing
 orders-end = refl
+
+pub orders-say : OrdersSay
+unfolding computing
+orders-say = refl

@@ -2,7 +2,7 @@
 -- order ends. Paths 1 and 2, mask 01h, no attention, nothing live unless said; tag 0005h, path 1, kind 3, zero CDB.
 use Prim.Native.Nat.{ℕ, zero, suc, _+_, _-_, _^_}
 use mathlib.Core.Path.{_≡_}
-use mathlib.Core.Bool.{true, false}
+use mathlib.Core.Bool.{false}
 use mathlib.Core.List.{List, [], _∷_, map}
 use lib.ListN.{replicate}
 use Rattle.wire.specs.Codes
@@ -266,3 +266,14 @@ orders =
 -- 1; the resets: the records left live
 abbrev pub OrdersEnd : Type 0
 OrdersEnd = map (λ (m : List ℕ). messageOf shared m 64 .table .live) orders ≡ 5 ∷ 3 ∷ 7 ∷ 5 ∷ 4 ∷ 7 ∷ 3 ∷ 4 ∷ 0 ∷ []
+
+-- with the tasks in records 0 and 2 running, on units 0 and 1
+unfoldable pub busy : Table
+busy = started (started shared 0) 2
+
+-- the same orders: the records whose commands they end, and the units that have to stop
+abbrev pub mapsOf : List ℕ → ℕ × ℕ
+mapsOf m = (messageOf busy m 64 .ended, messageOf busy m 64 .stops)
+
+abbrev pub OrdersSay : Type 0
+OrdersSay = map mapsOf orders ≡ (2, 0) ∷ (4, 2) ∷ (0, 0) ∷ (2, 0) ∷ (3, 1) ∷ (0, 0) ∷ (4, 2) ∷ (3, 1) ∷ (7, 3) ∷ []
