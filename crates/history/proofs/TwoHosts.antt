@@ -1,8 +1,8 @@
--- The ledgers of two hosts that count their tags alike: computed, and by demand 3 the last tables agree with them.
--- Assumes nothing.
+-- The ledgers of two hosts that count their tags alike, and what the calls say that they ended: computed, and by demand
+-- 3 the last tables agree with the ledgers. Assumes nothing.
 use mathlib.Core.Path.{refl}
 use native.Mathlib.Omega.{arith}
-use Rattle.history.specs.TwoHosts.{hosts, twoHosts, TwoHostsLedger, confirmedTwoHosts, ConfirmedLedger}
+use Rattle.history.specs.TwoHosts.{hosts, twoHosts, TwoHostsLedger, TwoHostsSay, atWork, AtWorkSay, confirmedTwoHosts, ConfirmedLedger}
 use Rattle.history.proofs.Computing.{computing}
 use Rattle.history.proofs.Demand.{engine-agrees}
 
@@ -13,3 +13,11 @@ two-hosts = record { entered = refl; agrees = engine-agrees hosts 0x01 1 twoHost
 pub confirmed-two-hosts : ConfirmedLedger
 unfolding computing confirmedTwoHosts
 confirmed-two-hosts = record { entered = refl; agrees = engine-agrees hosts 0x01 1 confirmedTwoHosts (omega arith) }
+
+pub two-hosts-say : TwoHostsSay
+unfolding computing twoHosts
+two-hosts-say = refl
+
+pub at-work-say : AtWorkSay
+unfolding computing atWork
+at-work-say = refl

@@ -1,9 +1,9 @@
 -- Two hosts that count their tags alike: the transcripts examples/two-hosts and examples/confirmed-two-hosts as
--- events, and the ledgers of the engine's calls on them.
+-- events, the ledgers of the engine's calls on them, and what those calls say that they ended.
 use Prim.Native.Nat.{ℕ}
 use mathlib.Core.Path.{_≡_}
 use mathlib.Core.Bool.{Bool, true, false}
-use mathlib.Core.List.{List, [], _∷_}
+use mathlib.Core.List.{List, [], _∷_, map}
 use lib.ListN.{replicate}
 use Rattle.wire.specs.Codes
 use Rattle.task.specs.declared.Kind.the-variants.{Simple}
@@ -17,7 +17,7 @@ use Rattle.engine.specs.Calls.{setupOf}
 use Rattle.rules.specs.declared.manage.Order.the-variants.{AbortTask}
 use Rattle.history.specs.Trace.{Event, Message, Start, Finish, Label, byStatus, byOrder}
 use Rattle.history.specs.Ledger.{Entry, ledger}
-use Rattle.history.specs.Demand.{told, lastTable, Agrees}
+use Rattle.history.specs.Demand.{Call, told, lastTable, Agrees}
 use Rattle.history.specs.Drives.{engine, callsOf}
 
 -- the hosts' ids; unit 0 alone; the first arrival number is 1
@@ -90,6 +90,26 @@ abbrev pub TwoHostsLedger : Type 0
 TwoHostsLedger =
     Ledgered twoHosts
     (entry (written 1 0 Waiting End 0) 3 5 (byOrder (AbortTask 1)) ∷ entry (written 2 1 Running End 0) 4 8 byStatus ∷ [])
+
+-- what the engine's calls on some events say that they ended: the records, and the units that have to stop
+abbrev pub mapsOf : Call → ℕ × ℕ
+mapsOf c = (c .outcome .ended, c .outcome .stops)
+
+abbrev pub Says : List Event → List (ℕ × ℕ) → Type 0
+Says evs maps = map mapsOf (callsOf engine fresh evs) ≡ maps
+
+-- event 5, the abort, ended the command in record 0, and event 8, the finish, the one in record 1; nothing had to stop
+abbrev pub TwoHostsSay : Type 0
+TwoHostsSay = Says twoHosts ((0, 0) ∷ (0, 0) ∷ (0, 0) ∷ (0, 0) ∷ (1, 0) ∷ (0, 0) ∷ (0, 0) ∷ (2, 0) ∷ [])
+
+-- the same with host 1's write at work on unit 0 when its abort comes, as event 6: unit 0 has to stop
+unfoldable pub atWork : List Event
+atWork =
+    command 1 0 testUnit ∷ command 2 0 testUnit ∷ command 1 1 write ∷ command 2 1 write ∷ Start 0 ∷ abort 1 2 1 ∷ abort 1 3 1 ∷ Start 0
+    ∷ Finish 2 Codes.good Codes.noSense 0 buffer ∷ []
+
+abbrev pub AtWorkSay : Type 0
+AtWorkSay = Says atWork ((0, 0) ∷ (0, 0) ∷ (0, 0) ∷ (0, 0) ∷ (0, 0) ∷ (1, 1) ∷ (0, 0) ∷ (0, 0) ∷ (2, 0) ∷ [])
 
 -- both write with CONFIRM under tag 0001h; host 1's is finished after 512 bytes; host 2 aborts its own, and once
 -- more, and would confirm; host 1 confirms
