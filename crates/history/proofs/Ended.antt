@@ -4,7 +4,7 @@ use Prim.Native.Nat.{ℕ, zero, suc, _+_, _^_, _<_}
 use mathlib.Core.Path.{_≡_, refl, sym, ap, _∙_}
 use mathlib.Core.Bool.{Bool, true, false, not, _&&_}
 use mathlib.Core.List.{List}
-use mathlib.Core.Logic.{inl, inr}
+use mathlib.Core.Logic.{_⊎_, inl, inr}
 use mathlib.Core.Option.{Option, none, some}
 use native.Mathlib.Decide.{ℕ-discrete}
 use native.Mathlib.Omega.{arith}
@@ -86,13 +86,13 @@ gone-by ev t o left c = rw (as-drive ev t o left c) (by-event ev)
 -- ---- 1 and 2: a bit of `ended`, by what is in the record before and after
 
 -- what a fate leaves: nothing where the command is ended, and else the command still
-left-none : (a : Task) (x : Fate) → remainsOf a x ≡ none → (how : Label) × (x ≡ ended how)
-left-none a stays e = absurd (not-both e refl)
-left-none a (becomes b) e = absurd (not-both e refl)
-left-none a (ended how) e = (how, refl)
+remains-none : (a : Task) (x : Fate) → remainsOf a x ≡ none → (how : Label) × (x ≡ ended how)
+remains-none a stays e = absurd (not-both e refl)
+remains-none a (becomes b) e = absurd (not-both e refl)
+remains-none a (ended how) e = (how, refl)
 
-left-some : (effect : Effect) (a b : Task) → remainsOf a (fateOf effect a) ≡ some b → SameCommand a b
-left-some effect a b = cases (fateOf effect a) refl
+remains-some : (effect : Effect) (a b : Task) → remainsOf a (fateOf effect a) ≡ some b → SameCommand a b
+remains-some effect a b = cases (fateOf effect a) refl
   where
     cases : (x : Fate) → fateOf effect a ≡ x → remainsOf a x ≡ some b → SameCommand a b
     cases stays f e = rw (same-element refl e) (record { path = refl; tag = refl; unit = refl; kind = refl; arrival = refl; sequel = refl })
@@ -136,7 +136,7 @@ module _ (ev : Event) (t : Table) (o : Outcome) (left : List ℕ) (x : Made Engi
     pub set : (i : ℕ) → isLive (o .ended) i ≡ true → (i < 64) × (a : Task) × (how : Label) × (at t i ≡ some a) × (fateBy ids ev o a ≡ ended how)
     set i e =
         let b = bit-set i e in
-        let f = left-none (taskAt t i) (fateBy ids ev o (taskAt t i)) (sym (follows i (taskAt t i) (b .0) (b .1)) ∙ b .2) in
+        let f = remains-none (taskAt t i) (fateBy ids ev o (taskAt t i)) (sym (follows i (taskAt t i) (b .0) (b .1)) ∙ b .2) in
         (b .0, taskAt t i, f .0, b .1, f .1)
 
     all : (i : ℕ) (a : Task) (how : Label) → i < 64 → at t i ≡ some a → fateBy ids ev o a ≡ ended how → isLive (o .ended) i ≡ true
@@ -144,7 +144,7 @@ module _ (ev : Event) (t : Table) (o : Outcome) (left : List ℕ) (x : Made Engi
 
     pub silent-as : (i : ℕ) (a : Task) → i < 64 → at t i ≡ some a → isLive (o .ended) i ≡ false → (b : Task) × (at u i ≡ some b) × SameCommand a b
     silent-as i a l e d = elim (either-way (isLive (u .live) i)) [
-      | inl y ↦ (taskAt u i, at-live u i y, left-some (effectOf ids ev (o .answer)) a (taskAt u i) (sym (follows i a l e) ∙ at-live u i y))
+      | inl y ↦ (taskAt u i, at-live u i y, remains-some (effectOf ids ev (o .answer)) a (taskAt u i) (sym (follows i a l e) ∙ at-live u i y))
       | inr y ↦ absurd (never (bit-of-gone i a l e (at-dead u i y)) d)
     ]
 
@@ -191,40 +191,52 @@ finish-named arrival transferred (some (reply.Status tag status sense)) a how e 
 ]
 finish-named arrival transferred (some (reply.Invalid tag)) a how e = absurd (never (ap isEnded e) refl)
 
--- nothing has to stop by a finish; by all else the units on which a task of `ended` ran
+-- by a finish nothing has to stop, and what it ended is what it finished; by all else the units on which a task of
+-- `ended` ran have to
 module _ (t : Table) (o : Outcome) (left : List ℕ) where
-  module _ (ev : Event) (x : Made Engine ev t o left) (calm : (a : Task) → finishes ev a ≡ false) (by-ended : o .stops ≡ runningIn t (o .ended)) where
-    calm-set : (unit : ℕ) → isLive (o .stops) unit ≡ true → (unit < 8) × (i : ℕ) × (a : Task) × Stopped ev t o unit i a
-    calm-set unit k =
-        let r = unit-set t o by-ended unit k in
-        let i : ℕ = r .1 in (
-          r .0,
-          i,
-          taskAt t i,
-          record { below = r .2; here = bit-set ev t o left x i (r .4) .1; ran = r .3; there = r .5; in-ended = r .4; not-finished = calm (taskAt t i) },
-        )
+  abbrev AtFinish : Event → Type 0
+  AtFinish ev = (o .stops ≡ 0) × ((i : ℕ) (a : Task) → at t i ≡ some a → isLive (o .ended) i ≡ true → finishes ev a ≡ true)
 
-    calm-all : (unit i : ℕ) (a : Task) → unit < 8 → Stopped ev t o unit i a → isLive (o .stops) unit ≡ true
-    calm-all unit i a l s =
-        let same : taskAt t i ≡ a = live-at t i (s .here) .1 in
-        unit-all t o by-ended unit i l (s .below) (ap (λ (b : Task). isRunning (b .phase)) same ∙ s .ran) (s .in-ended) (ap (λ (b : Task). b .unit) same ∙ s .there)
+  abbrev Otherwise : Event → Type 0
+  Otherwise ev = (o .stops ≡ runningIn t (o .ended)) × ((a : Task) → finishes ev a ≡ false)
 
-  stops-set : (ev : Event) → Made Engine ev t o left → (unit : ℕ) → isLive (o .stops) unit ≡ true → (unit < 8) × (i : ℕ) × (a : Task) × Stopped ev t o unit i a
-  stops-set (Message m buf) x unit k = calm-set (Message m buf) x (λ _. refl) (rw (x .call .outcome) (message-stops t (x .good) m (length buf))) unit k
-  stops-set (Start lun) x unit k = calm-set (Start lun) x (λ _. refl) (rw (x .call) (start-stops t lun)) unit k
-  stops-set (Finish arrival status sense transferred buf) x unit k =
-      let z : o .stops ≡ 0 = rw (x .call .outcome) (finish-stops t arrival status sense transferred (length buf)) in
-      absurd (never k (ap (λ (m : ℕ). isLive m unit) z ∙ dead-zero unit))
-  stops-set TotalReset x unit k = calm-set TotalReset x (λ _. refl) (rw (x .call) (reset-stops t)) unit k
+  stops-by : (ev : Event) → Made Engine ev t o left → AtFinish ev ⊎ Otherwise ev
+  stops-by (Message m buf) x = inr (rw (x .call .outcome) (message-stops t (x .good) m (length buf)), λ _. refl)
+  stops-by (Start unit) x = inr (rw (x .call) (start-stops t unit), λ _. refl)
+  stops-by (Finish arrival status sense transferred buf) x = inl (
+    rw (x .call .outcome) (finish-stops t arrival status sense transferred (length buf)),
+    λ i a here e.
+        let f = set (Finish arrival status sense transferred buf) t o left x (idsFrom t 0 (t .count)) (every-table-lists t) i e in
+        let same : f .1 ≡ a = same-element (f .3) here in
+        ap (λ (b : Task). eqb (b .arrival) arrival) (sym same) ∙ finish-named arrival transferred (replyOf (o .answer)) (f .1) (f .2) (f .4),
+  )
+  stops-by TotalReset x = inr (rw (x .call) (reset-stops t), λ _. refl)
 
-  stops-all : (ev : Event) → Made Engine ev t o left → (unit i : ℕ) (a : Task) → unit < 8 → Stopped ev t o unit i a → isLive (o .stops) unit ≡ true
-  stops-all (Message m buf) x unit i a l s = calm-all (Message m buf) x (λ _. refl) (rw (x .call .outcome) (message-stops t (x .good) m (length buf))) unit i a l s
-  stops-all (Start lun) x unit i a l s = calm-all (Start lun) x (λ _. refl) (rw (x .call) (start-stops t lun)) unit i a l s
-  stops-all (Finish arrival status sense transferred buf) x unit i a l s =
-      let f = set (Finish arrival status sense transferred buf) t o left x (idsFrom t 0 (t .count)) (every-table-lists t) i (s .in-ended) in
-      let same : f .1 ≡ a = same-element (f .3) (s .here) in
-      absurd (never (ap (λ (b : Task). eqb (b .arrival) arrival) (sym same) ∙ finish-named arrival transferred (replyOf (o .answer)) (f .1) (f .2) (f .4)) (s .not-finished))
-  stops-all TotalReset x unit i a l s = calm-all TotalReset x (λ _. refl) (rw (x .call) (reset-stops t)) unit i a l s
+  module _ (ev : Event) (x : Made Engine ev t o left) where
+    stops-set : (unit : ℕ) → isLive (o .stops) unit ≡ true → (unit < 8) × (i : ℕ) × (a : Task) × Stopped ev t o unit i a
+    stops-set unit k = elim (stops-by ev x) [
+      | inl z ↦ absurd (never k (ap (λ (m : ℕ). isLive m unit) (z .0) ∙ dead-zero unit))
+      | inr w ↦
+          let r = unit-set t o (w .0) unit k in
+          let i : ℕ = r .1 in (
+            r .0,
+            i,
+            taskAt t i,
+            record { below = r .2; here = bit-set ev t o left x i (r .4) .1; ran = r .3; there = r .5; in-ended = r .4; not-finished = w .1 (taskAt t i) },
+          )
+    ]
+
+    stops-all : (unit i : ℕ) (a : Task) → unit < 8 → Stopped ev t o unit i a → isLive (o .stops) unit ≡ true
+    stops-all unit i a l s = elim (stops-by ev x) [
+      | inl z ↦ absurd (never (z .1 i a (s .here) (s .in-ended)) (s .not-finished))
+      | inr w ↦
+          let same : taskAt t i ≡ a = live-at t i (s .here) .1 in
+          unit-all t o (w .0) unit i l (s .below) (ap (λ (b : Task). isRunning (b .phase)) same ∙ s .ran) (s .in-ended) (ap (λ (b : Task). b .unit) same ∙ s .there)
+    ]
+
+    stops-lt : o .stops < 2 ^ 8
+    unfolding runningIn
+    stops-lt = elim (stops-by ev x) [ inl z ↦ rw (z .0) (pow-pos 8) | inr w ↦ rw (w .0) (mapOf-lt 8 _) ]
 
 -- ---- 4: whose they are
 
@@ -242,13 +254,6 @@ its-own m buf t o left path tag w x says r i a e here = elim (ℕ-discrete (a .p
 none-set : (n map : ℕ) → map < 2 ^ n → ((i : ℕ) → i < n → isLive map i ≡ false) → map ≡ 0
 none-set n map l h = ext-live n map 0 l (pow-pos n) (λ i below. h i below ∙ sym (dead-zero i))
 
-stops-lt : (ev : Event) (t : Table) (o : Outcome) (left : List ℕ) → Made Engine ev t o left → o .stops < 2 ^ 8
-unfolding runningIn
-stops-lt (Message m buf) t o left x = rw (x .call .outcome) (rw (message-stops t (x .good) m (length buf)) (mapOf-lt 8 _))
-stops-lt (Start unit) t o left x = rw (x .call) (rw (start-stops t unit) (mapOf-lt 8 _))
-stops-lt (Finish arrival status sense transferred buf) t o left x = rw (x .call .outcome) (rw (finish-stops t arrival status sense transferred (length buf)) (pow-pos 8))
-stops-lt TotalReset t o left x = rw (x .call) (rw (reset-stops t) (mapOf-lt 8 _))
-
 clear : {b : Bool} → (b ≡ true → ⊥) → b ≡ false
 clear {b} n = elim (either-way b) [ inl y ↦ absurd (n y) | inr y ↦ y ]
 
@@ -258,7 +263,7 @@ none-ended ids ev t o left names x nobody =
     let unset : (i : ℕ) → isLive (o .ended) i ≡ true → ⊥ = λ i e. let f = set ev t o left x ids names i e in nobody i (f .1) (f .2) (f .0) (f .3) (f .4) in
     record {
       ended = none-set 64 (o .ended) (ended-lt ev t o left x) (λ i _. clear (unset i));
-      stops = none-set 8 (o .stops) (stops-lt ev t o left x) (λ unit _. clear (λ e. let s = stops-set t o left ev x unit e in unset (s .1) (s .3 .in-ended)));
+      stops = none-set 8 (o .stops) (stops-lt t o left ev x) (λ unit _. clear (λ e. let s = stops-set t o left ev x unit e in unset (s .1) (s .3 .in-ended)));
     }
 
 pub says-what-it-ended : SaysWhatItEnded Engine
@@ -269,7 +274,7 @@ says-what-it-ended = record {
     none = none-ended;
   };
   silent = silent;
-  stops = record { set = λ ev t o left. stops-set t o left ev; all = λ ev t o left. stops-all t o left ev };
+  stops = record { set = λ ev t o left x. stops-set t o left ev x; all = λ ev t o left x. stops-all t o left ev x };
   own = its-own;
 }
 

@@ -46,10 +46,10 @@ abbrev ofPath : ℕ → Task → ℕ
 ofPath p a = one (isFrom p a)
 
 -- what a task that goes on weighs after its fate
-left-weighs : (f : Task → ℕ) (a b : Task) (x : Fate) → remainsOf a x ≡ some b → fated f a x ≡ f b
-left-weighs f a b stays e = ap f (same-element refl e)
-left-weighs f a b (becomes c) e = ap f (same-element refl e)
-left-weighs f a b (ended how) e = absurd (not-both refl e)
+remains-weighs : (f : Task → ℕ) (a b : Task) (x : Fate) → remainsOf a x ≡ some b → fated f a x ≡ f b
+remains-weighs f a b stays e = ap f (same-element refl e)
+remains-weighs f a b (becomes c) e = ap f (same-element refl e)
+remains-weighs f a b (ended how) e = absurd (not-both refl e)
 
 -- a call, for the path at p: live before and accepted = ended and live after
 abbrev Balanced : List ℕ → ℕ → Event → Table → Outcome → Type 0
@@ -79,7 +79,7 @@ module _ (ids : List ℕ) (ev : Event) (t : Table) (o : Outcome) (left : List �
         | inr e ↦
             let s = silent-as ev t o left x ids names i a l (at-live t i y) e in
             let w : weighed effect (ofPath p) a ≡ ofPath p (s .0) =
-            left-weighs (ofPath p) a (s .0) (fateOf effect a) (sym (follows ev t o left x ids names i a l (at-live t i y)) ∙ s .1) in
+            remains-weighs (ofPath p) a (s .0) (fateOf effect a) (sym (follows ev t o left x ids names i a l (at-live t i y)) ∙ s .1) in
             let same : ofPath p (s .0) ≡ ofPath p a = ap (λ (q : ℕ). one (eqb q p)) (s .2 .path) in
             rw e (omega (arith, w, same))
       ]

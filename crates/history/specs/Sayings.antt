@@ -2,8 +2,10 @@
 -- the two maps wrong. Proved in proofs/Sayings.antt.
 use Prim.Native.Nat.{ℕ, _+_}
 use mathlib.Core.Bool.{_&&_}
+use mathlib.Core.Option.{Option, none, some}
 use lib.Dec.{eqb}
 use Rattle.wire.specs.Messages.{readOf}
+use Rattle.reply.specs.declared.Reply.{Reply}
 use Rattle.task.specs.Index.{mapOf}
 use Rattle.task.specs.Map.{isLive, gone}
 use Rattle.task.specs.Selections.{runningAs}
@@ -13,12 +15,10 @@ use Rattle.table.specs.Steps.{runningAmong}
 use Rattle.table.specs.declared.Table.{Table}
 use Rattle.rules.specs.declared.manage.Order.{Order}
 use Rattle.rules.specs.declared.manage.Order.the-variants.{AbortTask, AbortTaskSet, ClearTaskSet, ClearAca, UnitReset, TargetReset}
-use Rattle.plan.specs.Plans.{askedOf}
+use Rattle.plan.specs.Plans.{askedOf, replyOf}
 use Rattle.plan.specs.declared.Request.the-variants.{Command, Manage, Confirm}
 use Rattle.plan.specs.declared.Asked.{Asked}
 use Rattle.plan.specs.declared.Asked.the-variants.{By, Unread}
-use Rattle.plan.specs.declared.Answer.{Answer}
-use Rattle.plan.specs.declared.Answer.the-variants as answer
 use Rattle.engine.specs.declared.Outcome.{Outcome}
 use Rattle.history.specs.Trace.{Message, Start, Finish, TotalReset}
 use Rattle.history.specs.Drives.{Drive, ByDrive, engine}
@@ -27,16 +27,10 @@ use Rattle.history.specs.Ended.{SaysWhatItEnded}
 abbrev pub withMaps : Outcome → ℕ → ℕ → Outcome
 withMaps o ended stops = record { table = o .table; answer = o .answer; ended = ended; to = o .to; stops = stops }
 
--- a map where the call is answered by a reply, and else none
-abbrev pub whereReplied : Answer → ℕ → ℕ
-whereReplied answer.Ready map = 0
-whereReplied (answer.Accepted n) map = 0
-whereReplied (answer.Reply r) map = map
-whereReplied (answer.Started offset arrival) map = 0
-whereReplied (answer.Confirmed n) map = 0
-whereReplied (answer.Restarted n) map = 0
-whereReplied answer.Reset map = 0
-whereReplied (answer.Refused n) map = 0
+-- a map where the answer is a reply, and else none
+abbrev pub whereReplied : Option Reply → ℕ → ℕ
+whereReplied none map = 0
+whereReplied (some r) map = map
 
 -- the records that a selection picks in t; of a map the records of the path at p
 abbrev pub recordsOf : Table → Selection → ℕ
@@ -46,20 +40,23 @@ abbrev pub ownOf : Table → ℕ → ℕ → ℕ
 ownOf t p map = mapOf 64 (λ i. isLive map i && eqb (taskAt t i .path) p)
 
 -- a finish counts as ended what it leaves waiting to be confirmed
+abbrev pub endsRunning : Table → ℕ → Outcome → Outcome
+endsRunning t arrival o = withMaps o (whereReplied (replyOf (o .answer)) (recordsOf t (runningAs arrival))) (o .stops)
+
 unfoldable pub countsConfirmed : Drive
 countsConfirmed (Message m buf) t = engine (Message m buf) t
 countsConfirmed (Start unit) t = engine (Start unit) t
-countsConfirmed (Finish arrival status sense transferred buf) t =
-    withMaps (engine (Finish arrival status sense transferred buf) t) (whereReplied (engine (Finish arrival status sense transferred buf) t .answer) (recordsOf t (runningAs arrival))) 0
+countsConfirmed (Finish arrival status sense transferred buf) t = endsRunning t arrival (engine (Finish arrival status sense transferred buf) t)
 countsConfirmed TotalReset t = engine TotalReset t
 
 -- a finish has the unit stop
+abbrev pub stopsRunning : Table → ℕ → Outcome → Outcome
+stopsRunning t arrival o = withMaps o (o .ended) (whereReplied (replyOf (o .answer)) (runningAmong t (runningAs arrival)))
+
 unfoldable pub stopsAtFinish : Drive
 stopsAtFinish (Message m buf) t = engine (Message m buf) t
 stopsAtFinish (Start unit) t = engine (Start unit) t
-stopsAtFinish (Finish arrival status sense transferred buf) t =
-    withMaps (engine (Finish arrival status sense transferred buf) t) (engine (Finish arrival status sense transferred buf) t .ended)
-    (whereReplied (engine (Finish arrival status sense transferred buf) t .answer) (runningAmong t (runningAs arrival)))
+stopsAtFinish (Finish arrival status sense transferred buf) t = stopsRunning t arrival (engine (Finish arrival status sense transferred buf) t)
 stopsAtFinish TotalReset t = engine TotalReset t
 
 -- CLEAR TASK SET names the sender's tasks alone
