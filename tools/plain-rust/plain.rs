@@ -195,6 +195,12 @@ impl Engine {
         answer
     }
 
+    // CHECK CONDITION, and the unit gets ACA for the sender, unless it has one.
+    fn hold(&mut self, path: usize, lun: u8, sense: [u8; 3]) -> Answer {
+        self.aca[lun as usize].get_or_insert(path);
+        Answer::Status(0x02, sense)
+    }
+
     fn command(&mut self, m: &[u8], path: usize, tag: u16) -> Answer {
         let (lun, flags) = (m[8], m[10]);
         let resume = flags & 0x20 != 0;
@@ -241,7 +247,7 @@ impl Engine {
                     return Answer::Status(0x30, [0; 3]);
                 }
             }
-            None if kind == Kind::Aca => return Answer::Status(0x02, [0x05, 0x49, 0x00]),
+            None if kind == Kind::Aca => return self.hold(path, lun, [0x05, 0x49, 0x00]),
             None => {}
         }
         let pending = self.paths[path].attention;
@@ -252,13 +258,13 @@ impl Engine {
             } else {
                 0x2f
             };
-            return Answer::Status(0x02, [0x06, code, 0x00]);
+            return self.hold(path, lun, [0x06, code, 0x00]);
         }
         let Some(length) = length else {
-            return Answer::Status(0x02, [0x05, 0x20, 0x00]);
+            return self.hold(path, lun, [0x05, 0x20, 0x00]);
         };
         if m[15 + length] & 3 != 0 {
-            return Answer::Status(0x02, [0x05, 0x24, 0x00]);
+            return self.hold(path, lun, [0x05, 0x24, 0x00]);
         }
         let arrival = self.next;
         self.next += 1;

@@ -5,6 +5,7 @@ use crate::print::hex;
 use crate::print::hex_long;
 use crate::print::hex_word;
 use crate::print::pairs;
+use crate::print::pairs_filled;
 use crate::print::text;
 use crate::print::word_if;
 use reply::Found;
@@ -153,7 +154,7 @@ fn write_into(buffer: &mut [u8], r: Reply) {
         Written::Refused(why) => refused(why),
     }
     text(b" buffer");
-    pairs(buffer);
+    pairs_filled(buffer, FILL);
 }
 
 // Writes a reply into the first n bytes of the room.

@@ -13,6 +13,7 @@ use crate::print::hex_long;
 use crate::print::hex_map;
 use crate::print::hex_word;
 use crate::print::pairs;
+use crate::print::pairs_filled;
 use crate::print::text;
 use engine::Outcome;
 use engine::calls::command_block;
@@ -128,7 +129,7 @@ fn say_block(part: &[u8]) {
 // The whole buffer.
 fn say_buffer(buffer: &[u8]) {
     text(b" buffer");
-    pairs(buffer);
+    pairs_filled(buffer, FILL);
 }
 
 // The ids of a setup, one byte each.

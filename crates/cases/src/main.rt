@@ -1,4 +1,4 @@
-// Runs cases, bytes and calls: echoes each line of standard input, then of the files `confirmed` and `ended`, and
+// Runs cases, bytes and calls: echoes each line of standard input, then of the files `confirmed`, `ended` and `held`, and
 // answers it where it is a case. A table is kept from line to line of each.
 mod cases;
 mod engine_cases;
@@ -154,4 +154,5 @@ fn main() {
     run_file(STDIN_FILENO);
     run_named(b"confirmed");
     run_named(b"ended");
+    run_named(b"held");
 }

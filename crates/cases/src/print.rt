@@ -1,4 +1,6 @@
 // Words and numbers, written to standard output.
+ghost use Prim.Native.Nat.{_≤_};
+ghost use lib.ListN.{length};
 use libc::STDOUT_FILENO;
 
 const DIGITS: [u8; 16] = *b"0123456789ABCDEF";
@@ -83,5 +85,31 @@ pub(crate) fn pairs(bytes: &[u8]) {
     while i < bytes.len() {
         pair(bytes[i]);
         i += 1;
+    }
+}
+
+// How many bytes there are up to the last that is not the filling one.
+fn filled_from(bytes: &[u8], fill: u8) -> usize
+    ensures { λ r. ⌜ r ≤ length (now (bytes .entry)) ⌝ }
+{
+    let mut end = 0;
+    let mut i = 0;
+    while i < bytes.len() {
+        if bytes[i] != fill {
+            end = i + 1;
+        }
+        i += 1;
+    }
+    end
+}
+
+// The bytes up to the last that is not the filling one, then that one and how often it stands behind them.
+pub(crate) fn pairs_filled(bytes: &[u8], fill: u8) {
+    let end = filled_from(bytes, fill);
+    pairs(&bytes[..end]);
+    if end < bytes.len() {
+        pair(fill);
+        text(b"*");
+        decimal(bytes.len() - end);
     }
 }

@@ -8,7 +8,7 @@ use Rattle.task.specs.Index.{first, someBelow, allBelow, mapOf, mapAt}
 use Rattle.task.specs.Map.{lowestFree, withBit, gone}
 use Rattle.task.specs.Selections.{picks}
 use Rattle.task.specs.Scan.{considered, scanFrom}
-use Rattle.table.specs.Tables.{zeroTable, placeOf as pathPlace, anyLive, pickOf, hasRoom, accepted, endedBy, alteredAt, markedIn, attentionGoneIn, resetAttentionIn, othersOn, acaClearedIn, finished}
+use Rattle.table.specs.Tables.{zeroTable, placeOf as pathPlace, anyLive, pickOf, hasRoom, accepted, endedBy, alteredAt, markedIn, attentionGoneIn, resetAttentionIn, othersOn, claimedIn, acaClearedIn, finished}
 use Rattle.table.specs.Steps.{runningAmong}
 use Rattle.table.specs.Setup.{badList, freshPaths, pathsOf, freshTable, setupTable}
 use Rattle.sound.specs.Sound.{countOk, pathsDistinct, unusedZero, recordsOk, unitsOk, clashes, soundOf}
@@ -24,7 +24,7 @@ unfolding rowIn fieldsOf readOf commandReserved confirmReserved reservedSet cutS
 bytes = tt
 
 unfoldable tables : Unit {0}
-unfolding first someBelow allBelow mapOf mapAt lowestFree withBit gone picks considered scanFrom zeroTable pathPlace anyLive pickOf hasRoom accepted endedBy alteredAt markedIn attentionGoneIn resetAttentionIn othersOn acaClearedIn finished runningAmong badList freshPaths pathsOf freshTable setupTable countOk pathsDistinct unusedZero recordsOk unitsOk clashes soundOf
+unfolding first someBelow allBelow mapOf mapAt lowestFree withBit gone picks considered scanFrom zeroTable pathPlace anyLive pickOf hasRoom accepted endedBy alteredAt markedIn attentionGoneIn resetAttentionIn othersOn claimedIn acaClearedIn finished runningAmong badList freshPaths pathsOf freshTable setupTable countOk pathsDistinct unusedZero recordsOk unitsOk clashes soundOf
 tables = tt
 
 unfoldable answers : Unit {0}

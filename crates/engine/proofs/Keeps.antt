@@ -20,25 +20,28 @@ use Rattle.wire.proofs.Table.{cond-ind}
 use Rattle.task.proofs.Ways.{never, both}
 use Rattle.task.proofs.Places.{first-picks}
 use Rattle.task.proofs.Selecting.{meets, picks-every, picks-on, picks-aca-on, picks-aca-from-on}
-use Rattle.table.specs.Tables.{placeOf, pathOf, unitAt, taskAt, hasAca, ownedBy, anyLive, pickOf, hasRoom, othersOn, withPaths, endedBy, markedIn, resetAttentionIn}
+use Rattle.table.specs.Tables.{placeOf, pathOf, unitAt, taskAt, isAttached, hasAca, ownedBy, anyLive, pickOf, hasRoom, othersOn, withPaths, endedBy, markedIn, resetAttentionIn}
 use Rattle.table.specs.View.{Shaped}
 use Rattle.sound.specs.Promises.{Good, MayCome}
 use Rattle.table.specs.declared.Aca.{Aca}
 use Rattle.table.specs.declared.Aca.the-variants.{Clear, Owned}
 use Rattle.table.specs.declared.Table.{Table}
 use Rattle.table.proofs.Views.{live-at, pick-at, any-is-found, none-left}
-use Rattle.sound.proofs.Keeps.{accept-keeps, may-come as paths-may-come, end-keeps, start-keeps as start-task-keeps, restart-keeps, clear-keeps, mark-keeps, attention-gone-keeps, reset-attention-keeps, cleared-attention-keeps, finish-keeps as finish-task-keeps, reset-keeps as reset-table-keeps, setup-is-good as setup-table-is-good}
+use Rattle.sound.proofs.Keeps.{accept-keeps, may-come as paths-may-come, end-keeps, start-keeps as start-task-keeps, restart-keeps, claim-keeps, clear-keeps, mark-keeps, attention-gone-keeps, reset-attention-keeps, cleared-attention-keeps, finish-keeps as finish-task-keeps, reset-keeps as reset-table-keeps, setup-is-good as setup-table-is-good}
 use Rattle.rules.specs.Facts.{factsOf, lookupOf}
 use Rattle.rules.specs.Rules.{asksAca, keptOutByAca, acaKindWithoutAca, roomRules, fieldRules, unitRules, blockRules, commandRules, accepts, deciding}
 use Rattle.rules.specs.Management.{endsOf, tagOf, unitOf, orderCode, orderChange}
 use Rattle.rules.specs.declared.facts.Facts.{Facts}
 use Rattle.rules.specs.declared.change.SenderChange.{SenderChange}
 use Rattle.rules.specs.declared.change.SenderChange.the-variants.{Stays, SetMark, ClearMark, ClearMarkAndAttention}
+use Rattle.rules.specs.declared.change.QueueChange.the-variants.{Leaves, Holds}
 use Rattle.rules.specs.declared.command.Ruling.{Ruling}
 use Rattle.rules.specs.declared.command.Ruling.the-variants.{Refuse, Respond, Report, Invalid, Accept}
 use Rattle.rules.specs.declared.manage.Order.{Order}
 use Rattle.rules.specs.declared.manage.Order.the-variants.{AbortTask, AbortTaskSet, ClearTaskSet, ClearAca, UnitReset, TargetReset}
-use Rattle.rules.proofs.Entries.{everyGives, appliesAt, passed}
+use Rattle.rules.specs.Promises.{holdsQueue}
+use Rattle.rules.proofs.Promises.{holds-as-asked, attached-is-seven-to-ten}
+use Rattle.rules.proofs.Entries.{everyRule, appliesAt, passed}
 use Rattle.plan.specs.Plans.{kindOf, ruled, orderPlan, senderAfter}
 use Rattle.plan.specs.declared.Request.{Request}
 use Rattle.plan.specs.declared.Request.the-variants.{Command, Manage, Confirm}
@@ -53,7 +56,7 @@ listed-place : (t : Table) (id : ℕ) → pathOf t id < 8 → pathOf t id < t .c
 unfolding placeOf
 listed-place t id l = ltb-true _ _ (both _ _ (first-picks 8 _ l) .0)
 
-owned-by : (o : Aca) (p : ℕ) → ownedBy o p ≡ true → o ≡ Owned p
+pub owned-by : (o : Aca) (p : ℕ) → ownedBy o p ≡ true → o ≡ Owned p
 owned-by Clear p e = let z : _≡_ {A = ℕ} 0 1 = cc in absurd (omega arith)
 owned-by (Owned q) p e = ap Owned (eqb-true q p e)
 
@@ -88,7 +91,7 @@ module _ (t : Table) (p tag lun : ℕ) (flags : Flags) (m : List ℕ) where
 
   module _ (e : deciding facts flags m .gives ≡ Accept) where
     none-applied : (k : ℕ) → appliesAt (commandRules facts flags m) k ≡ false
-    unfolding commandRules roomRules fieldRules unitRules blockRules everyGives
+    unfolding commandRules roomRules fieldRules unitRules blockRules everyRule
     none-applied = passed (commandRules facts flags m) (accepts m) refl e
 
     pub accept-has-room : hasRoom t ≡ true
@@ -112,10 +115,15 @@ module _ (t : Table) (p tag lun : ℕ) (flags : Flags) (m : List ℕ) where
           alone = λ a. sym (any-is-found t (acaOn lun) h) ∙ by-owner a .1;
         }
 
+-- a rule that holds the queue is one of rules 7 to 10, and the unit is attached
+pub held-attached : (f : Facts) (flags : Flags) (m : List ℕ) → holdsQueue (deciding f flags m .gives) ≡ true → f .attached ≡ true
+held-attached f flags m h =
+    let k = both _ _ (sym (holds-as-asked f flags m) ∙ h) in sym (attached-is-seven-to-ten .either f flags m (k .1)) ∙ k .0
+
 -- ---- what an order leaves
 
 -- CLEAR ACA is answered 00h only to the owner
-owner-clears : (f : Facts) (m : List ℕ) (lun : ℕ) → orderCode f m (ClearAca lun) .0 ≡ 0 → f .owned ≡ true
+pub owner-clears : (f : Facts) (m : List ℕ) (lun : ℕ) → orderCode f m (ClearAca lun) .0 ≡ 0 → f .owned ≡ true
 unfolding orderCode
 owner-clears f m lun = cases (reservedSet m) (not (f .attached)) (f .owned)
   where
@@ -156,14 +164,16 @@ module _ (t : Table) (g : Good t) (p : ℕ) (l : p < t .count) where
   sender-keeps ClearMark = mark-keeps t p false g l
   sender-keeps ClearMarkAndAttention = attention-gone-keeps (withPaths t (markedIn (t .paths) p false)) p (mark-keeps t p false g l) l
 
-  ruling-keeps : (next tag lun : ℕ) (flags : Flags) (r : Ruling) → (r ≡ Accept → MayCome t p tag lun (kindOf (flags .queue)))
+  ruling-keeps : (next tag lun : ℕ) (flags : Flags) (r : Ruling) → (r ≡ Accept → MayCome t p tag lun (kindOf (flags .queue))) → (holdsQueue r ≡ true → isAttached t lun ≡ true)
       → Good (carriedOut t (ruled next p tag lun flags r))
   unfolding carriedOut withRecords
-  ruling-keeps next tag lun flags (Refuse n) c = g
-  ruling-keeps next tag lun flags (Respond code sender) c = sender-keeps sender
-  ruling-keeps next tag lun flags (Report status sense sender) c = sender-keeps sender
-  ruling-keeps next tag lun flags (Invalid sender) c = sender-keeps sender
-  ruling-keeps next tag lun flags Accept c =
+  ruling-keeps next tag lun flags (Refuse n) c h = g
+  ruling-keeps next tag lun flags (Respond code sender) c h = sender-keeps sender
+  ruling-keeps next tag lun flags (Report status sense sender Leaves) c h = sender-keeps sender
+  ruling-keeps next tag lun flags (Report status sense sender Holds) c h =
+      claim-keeps (withPaths t (senderAfter (t .paths) p sender)) lun p (sender-keeps sender) (h refl) l
+  ruling-keeps next tag lun flags (Invalid sender) c h = sender-keeps sender
+  ruling-keeps next tag lun flags Accept c h =
       let l = senderAfter (t .paths) p ClearMark in accept-keeps (withPaths t l) p tag lun _ _ (sender-keeps ClearMark) (paths-may-come l (c refl))
 
   -- what an order asks of the table
@@ -191,8 +201,8 @@ module _ (t : Table) (g : Good t) (p : ℕ) (l : p < t .count) where
       clear-keeps (endedBy attentive everyTask) Anywhere (end-keeps attentive _ attentive-good) (none-anywhere attentive attentive-good)
 
   plan-keeps : (m : List ℕ) (tag : ℕ) (w : Request) → Good (carriedOut t (planAt t m p tag w))
-  unfolding carriedOut withRecords planAt lookupOf orderPlan
-  plan-keeps m tag (Command lun flags) = ruling-keeps (t .next) tag lun flags _ (λ e. may-come t p tag lun flags m e (g .shaped) l)
+  unfolding carriedOut withRecords planAt lookupOf orderPlan factsOf
+  plan-keeps m tag (Command lun flags) = ruling-keeps (t .next) tag lun flags _ (λ e. may-come t p tag lun flags m e (g .shaped) l) (held-attached (factsOf t p tag lun) flags m)
   plan-keeps m tag (Manage o) =
       cond-ind (λ (pl : Plan). Good (carriedOut t pl)) (eqb (orderCode (asked o) m o .0) (Codes.done .0)) (λ e. done-keeps m o (eqb-true _ _ e)) (λ _. g)
   plan-keeps m tag (Confirm offset complete) =
@@ -207,7 +217,7 @@ message-keeps t m n g =
     each-message GoodAfter t (λ _. g) m (λ path tag w _ l. plan-keeps t g (pathOf t path) (listed-place t path l) m tag w) n
 
 -- the task that may go is on the unit
-on-unit : (a : Task) (aca : Bool) (unit : ℕ) → picks (cond aca (acaWaitingOn unit) (waitingOn unit)) a ≡ true → a .unit ≡ unit
+pub on-unit : (a : Task) (aca : Bool) (unit : ℕ) → picks (cond aca (acaWaitingOn unit) (waitingOn unit)) a ≡ true → a .unit ≡ unit
 on-unit a true unit e = eqb-true _ _ (meets _ a e .place)
 on-unit a false unit e = eqb-true _ _ (meets _ a e .place)
 

@@ -4,6 +4,7 @@ pub mod Promises
 pub mod Replies
 pub mod Keeps
 pub mod Confirming
+pub mod Holding
 pub mod Abort
 pub mod Past
 pub mod Outcomes

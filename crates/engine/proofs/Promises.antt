@@ -47,7 +47,7 @@ use Rattle.engine.proofs.Keeps.{accept-is-whole}
 -- ---- refusals
 
 -- an answer by its sort
-abbrev sortOf : Answer → ℕ
+abbrev pub sortOf : Answer → ℕ
 sortOf answer.Ready = 0
 sortOf (answer.Accepted n) = 1
 sortOf (answer.Reply r) = 2
@@ -57,7 +57,7 @@ sortOf (answer.Restarted n) = 5
 sortOf answer.Reset = 6
 sortOf (answer.Refused n) = 7
 
-unlike : {A : Type 0} {a b : Answer} → eqb (sortOf a) (sortOf b) ≡ false → a ≡ b → A
+pub unlike : {A : Type 0} {a b : Answer} → eqb (sortOf a) (sortOf b) ≡ false → a ≡ b → A
 unlike {a = a} {b = b} h e = absurd (eqb-false (sortOf a) (sortOf b) h (ap sortOf e))
 
 -- an answer is a refusal only where the table is t, and nothing has to stop
@@ -77,7 +77,7 @@ ruling-kept : (t : Table) (next p tag lun : ℕ) (flags : Flags) (r : Ruling) �
 unfolding carriedOut withRecords
 ruling-kept t next p tag lun flags (Refuse k) = λ _ _. (refl, refl)
 ruling-kept t next p tag lun flags (Respond code sender) = no-refusal refl
-ruling-kept t next p tag lun flags (Report status sense sender) = no-refusal refl
+ruling-kept t next p tag lun flags (Report status sense sender queue) = no-refusal refl
 ruling-kept t next p tag lun flags (Invalid sender) = no-refusal refl
 ruling-kept t next p tag lun flags Accept = no-refusal refl
 
@@ -155,7 +155,7 @@ nothing-ended = record {
 accepts-only : (next p tag lun arrival : ℕ) (flags : Flags) (r : Ruling) → ruled next p tag lun flags r .answer ≡ answer.Accepted arrival → r ≡ Accept
 accepts-only next p tag lun arrival flags (Refuse n) e = unlike refl e
 accepts-only next p tag lun arrival flags (Respond code sender) e = unlike refl e
-accepts-only next p tag lun arrival flags (Report status sense sender) e = unlike refl e
+accepts-only next p tag lun arrival flags (Report status sense sender queue) e = unlike refl e
 accepts-only next p tag lun arrival flags (Invalid sender) e = unlike refl e
 accepts-only next p tag lun arrival flags Accept e = refl
 

@@ -28,10 +28,10 @@ use Rattle.rules.specs.Rules.{roomRules, fieldRules, unitRules, blockRules, acc
 use Rattle.rules.specs.Management.{hasUnit, carriedCode, orderCode}
 use Rattle.rules.specs.declared.facts.Facts.{Facts}
 use Rattle.rules.specs.declared.facts.Lookup.{Lookup}
-use Rattle.rules.specs.declared.command.Ruling.{Ruling}
+use Rattle.rules.specs.First.{Rule}
 use Rattle.rules.specs.declared.manage.Order.{Order}
 use Rattle.rules.specs.declared.manage.Order.the-variants as order
-use Rattle.rules.proofs.Entries.{everyGives, given-meets}
+use Rattle.rules.proofs.Entries.{everyRule, first-meets}
 use Rattle.plan.specs.Plans.{replyOf, ruled, planOf}
 use Rattle.plan.specs.declared.Request.{Request}
 use Rattle.plan.specs.declared.Request.the-variants.{Command, Manage, Confirm}
@@ -55,9 +55,9 @@ Fits a = fits (replyOf a) ≡ true
 
 -- a command: a test of every rule's answer, and of acceptance
 ruling-fits : (f : Facts) (next p tag : ℕ) (m : List ℕ) (lun : ℕ) (flags : Flags) → Fits (ruled next p tag lun flags (deciding f flags m .gives) .answer)
-unfolding everyGives commandRules roomRules fieldRules unitRules blockRules writableOf
+unfolding everyRule commandRules roomRules fieldRules unitRules blockRules writableOf
 ruling-fits f next p tag m lun flags =
-    given-meets (λ (r : Ruling). fits (replyOf (ruled next p tag lun flags r .answer))) (commandRules f flags m) (accepts m) refl refl
+    first-meets (λ (r : Rule). fits (replyOf (ruled next p tag lun flags (r .gives) .answer))) (commandRules f flags m) (accepts m) refl refl
 
 -- an order: each of its return codes
 module _ (tag : ℕ) where

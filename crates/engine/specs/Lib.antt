@@ -4,3 +4,4 @@ pub mod Calls
 pub mod Steps
 pub mod Unique
 pub mod Promises
+pub mod Holding

@@ -1,5 +1,5 @@
--- What each call does to the table is its event's effect: by the path list, the next number, the weight of the live
--- tasks, and what each live record has after it. Assumes nothing.
+-- What each call does to the table is its event's effect: by the path list, the attached units, the next number, the
+-- weight of the live tasks, and what each live record has after it. Assumes nothing.
 use Prim.Native.Nat.{ℕ, _<_}
 use mathlib.Core.Path.{_≡_, refl, sym, ap, _∙_, subst}
 use mathlib.Core.Bool.{Bool, true, false, cond, _&&_}
@@ -46,7 +46,7 @@ use Rattle.rules.specs.declared.change.SenderChange.the-variants.{Stays, SetMar
 use Rattle.rules.specs.declared.command.Ruling.{Ruling}
 use Rattle.rules.specs.declared.command.Ruling.the-variants.{Refuse, Respond, Report, Invalid, Accept}
 use Rattle.rules.specs.declared.manage.Order.{Order}
-use Rattle.plan.specs.Plans.{askedOf, kindOf, sequelOf, ruled, orderPlan, isAwaited, confirmPlan, senderAfter, pathsAfter, unitsAfter}
+use Rattle.plan.specs.Plans.{askedOf, kindOf, sequelOf, reportChange, ruled, orderPlan, isAwaited, confirmPlan, senderAfter, pathsAfter, unitsAfter}
 use Rattle.engine.specs.Calls.{refused, withParts, withRecords, carriedOut, planAt, messageOf, choiceOn, startOf, finishOf, totalResetOf}
 use Rattle.plan.specs.declared.Request.{Request}
 use Rattle.plan.specs.declared.Request.the-variants.{Command, Manage, Confirm}
@@ -75,6 +75,7 @@ ids-sender l p ClearMarkAndAttention = ids-attention-gone _ p ∙ ids-marked l p
 ids-after : (l : List path.Path) (count : ℕ) (c : Change) → idsOf (pathsAfter l count c) ≡ idsOf l
 ids-after l count change.Nothing = refl
 ids-after l count (change.OfSender p sender) = ids-sender l p sender
+ids-after l count (change.Holding p sender lun) = ids-sender l p sender
 ids-after l count (change.ClearedAttention others) = ids-cleared-attention l others
 ids-after l count (change.AcaGoes unit) = refl
 ids-after l count (change.Resets place) = ids-reset-attention l count false
@@ -118,13 +119,14 @@ module _ (t : Table) where
 
 pub done-nothing : (t : Table) → Done Nothing t t
 unfolding fateOf
-done-nothing t = record { count = refl; ids = λ p. refl; next = omega arith; weighs = λ f. omega arith; sure = sure-nothing t; follows = λ i a l e. e }
+done-nothing t = record { count = refl; attached = refl; ids = λ p. refl; next = omega arith; weighs = λ f. omega arith; sure = sure-nothing t; follows = λ i a l e. e }
 
 -- paths that keep their ids and units change no effect
 done-beside : (effect : Effect) (t u : Table) (ps : List path.Path) (us : List unit.Unit) → idsOf ps ≡ idsOf (u .paths) → Done effect t u
     → Done effect t (withPaths (withUnits u us) ps)
 done-beside effect t u ps us e d = record {
   count = d .count;
+  attached = d .attached;
   ids = λ p. ids-at (u .paths) ps p e ∙ d .ids p;
   next = d .next;
   weighs = λ f. weight-same f u ps us ∙ d .weighs f;
@@ -134,6 +136,9 @@ done-beside effect t u ps us e d = record {
 
 only-count : (t u : Table) → OnlyTasks t u → u .count ≡ t .count
 only-count t u o = ap (λ (x : Table). x .count) (o .rest)
+
+only-attached : (t u : Table) → OnlyTasks t u → u .attached ≡ t .attached
+only-attached t u o = ap (λ (x : Table). x .attached) (o .rest)
 
 only-ids : (t u : Table) → OnlyTasks t u → (p : ℕ) → pathAt u p .id ≡ pathAt t p .id
 only-ids t u o p = ap (λ (x : Table). pathAt x p .id) (o .rest)
@@ -146,6 +151,7 @@ module _ (t : Table) (effect : Effect) (s : Selection) (how : Label) where
   done-ended : Shaped t → taken effect ≡ none → EndsPicked → Sure effect t → Done effect t (endedBy t s)
   done-ended h n fates sure = record {
     count = only-count t _ (ended-only t s);
+    attached = only-attached t _ (ended-only t s);
     ids = only-ids t _ (ended-only t s);
     next = omega (arith, ended-next t s, ap (weightAt (λ a. 1)) n);
     weighs = λ f. omega (arith, end-weighs f t s h, left f, ap (weightAt f) n);
@@ -163,6 +169,7 @@ done-altered : (t : Table) (effect : Effect) (k : ℕ) (a b : Task) → Good t �
     → ((c : Task) → (c .arrival ≡ a .arrival → ⊥) → fateOf effect c ≡ stays) → Sure effect t → Done effect t (alteredAt t k b)
 done-altered t effect k a b g l e n fate rest sure = record {
   count = only-count t _ (altered-only t k b);
+  attached = only-attached t _ (altered-only t k b);
   ids = only-ids t _ (altered-only t k b);
   next = omega (arith, altered-next t k b, ap (weightAt (λ a. 1)) n);
   weighs =
@@ -187,7 +194,7 @@ module _ (t : Table) (g : Good t) where
   done-parts : (c : Change) → Done Nothing t (withParts t c)
   done-parts c = done-beside Nothing t t (pathsAfter (t .paths) (t .count) c) (unitsAfter (t .units) c) (ids-after (t .paths) (t .count) c) (done-nothing t)
 
-  shaped-sender : (p : ℕ) (sender : SenderChange) → Shaped (withParts t (change.OfSender p sender))
+  pub shaped-sender : (p : ℕ) (sender : SenderChange) → Shaped (withParts t (change.OfSender p sender))
   shaped-sender p sender = record {
     map = g .shaped .map;
     next = g .shaped .next;
@@ -205,6 +212,7 @@ module _ (t : Table) (g : Good t) where
       let o : OnlyTasks u (accepted u p tag lun kind sequel) = accepted-only u p tag lun kind sequel in
       record {
         count = only-count u _ o;
+        attached = only-attached u _ o;
         ids = λ k. only-ids u _ o k ∙ done-parts (change.OfSender p ClearMark) .ids k;
         next = ap (λ (x : Table). x .next) (accepted-put u p tag lun kind sequel room);
         weighs = λ f. omega (arith, accept-weighs f u p tag lun kind sequel (shaped-sender p ClearMark) room, done-parts (change.OfSender p ClearMark) .weighs f);
@@ -217,7 +225,7 @@ module _ (t : Table) (g : Good t) where
   unfolding carriedOut withRecords
   done-ruled p tag lun flags (Refuse n) room = done-nothing t
   done-ruled p tag lun flags (Respond code sender) room = done-parts (change.OfSender p sender)
-  done-ruled p tag lun flags (Report status sense sender) room = done-parts (change.OfSender p sender)
+  done-ruled p tag lun flags (Report status sense sender queue) room = done-parts (reportChange p lun sender queue)
   done-ruled p tag lun flags (Invalid sender) room = done-parts (change.OfSender p sender)
   done-ruled p tag lun flags Accept room = done-coming p tag lun (kindOf (flags .queue)) (sequelOf (flags .confirm)) (room refl)
 
@@ -331,6 +339,7 @@ module _ (t : Table) (g : Good t) where
   unfolding resetOf fateOf
   done-reset = record {
     count = refl;
+    attached = refl;
     ids = λ p. ids-at (t .paths) (resetOf t .paths) p (reset-ids t);
     next = omega arith;
     weighs = λ f. omega (arith, reset-weighs f t, weight-zero (weighed (Ends everyTask byTotalReset) f) t (λ a. rw (picks-every a) refl));
@@ -355,7 +364,7 @@ refused-nothing ids TotalReset n = refl
 -- ---- the place of an id: in setup's list as in the table's
 
 module _ (ids : List ℕ) (t : Table) (g : Good t) (listed : t .count ≡ length ids) (stand : (p : ℕ) → p < t .count → pathAt t p .id ≡ getD ids p 0) where
-  place : (id : ℕ) → pathOf t id < 8 → placeIn ids id ≡ pathOf t id
+  pub place : (id : ℕ) → pathOf t id < 8 → placeIn ids id ≡ pathOf t id
   unfolding placeIn placeOf
   place id l =
       let k : ℕ = pathOf t id in

@@ -91,6 +91,7 @@ pub record Sure (effect : Effect) (t : Table) : Type 0 where
 
 pub record Done (effect : Effect) (t u : Table) : Type 0 where
   pub count : u .count ≡ t .count
+  pub attached : u .attached ≡ t .attached
   pub ids : (p : ℕ) → pathAt u p .id ≡ pathAt t p .id
   pub next : u .next ≡ t .next + added effect (λ a. 1)
   pub weighs : (f : Task → ℕ) → weight f u ≡ weight (weighed effect f) t + added effect f

@@ -8,6 +8,8 @@ pub mod Summed
 pub mod Sayings
 pub mod Drives
 pub mod TwoHosts
+pub mod Held
+pub mod HeldTrace
 mod Stopping
 mod Nth
 mod Totals

@@ -86,7 +86,7 @@ module _ (i : ℕ) (a : Task) (l : i < 64) where
       ruling-spares : (next tag lun : ℕ) (flags : Flags) (r : Ruling) → Spares i a (ruled next p tag lun flags r .records)
       ruling-spares next tag lun flags (Refuse number) = tt
       ruling-spares next tag lun flags (Respond code sender) = tt
-      ruling-spares next tag lun flags (Report status sense sender) = tt
+      ruling-spares next tag lun flags (Report status sense sender queue) = tt
       ruling-spares next tag lun flags (Invalid sender) = tt
       ruling-spares next tag lun flags Accept = tt
 

@@ -144,7 +144,7 @@ module _ (t : Table) where
     ruling-silent : (next p tag lun : ℕ) (flags : Flags) (r : Ruling) → Silent (ruled next p tag lun flags r .records)
     ruling-silent next p tag lun flags (Refuse n) = tt
     ruling-silent next p tag lun flags (Respond code sender) = tt
-    ruling-silent next p tag lun flags (Report status sense sender) = tt
+    ruling-silent next p tag lun flags (Report status sense sender queue) = tt
     ruling-silent next p tag lun flags (Invalid sender) = tt
     ruling-silent next p tag lun flags Accept = tt
 

@@ -7,3 +7,4 @@ pub mod Ended
 pub mod Drives
 pub mod Sayings
 pub mod TwoHosts
+pub mod Held

@@ -2,8 +2,7 @@
 -- events, the ledgers of the engine's calls on them, and what those calls say that they ended.
 use Prim.Native.Nat.{ℕ}
 use mathlib.Core.Path.{_≡_}
-use mathlib.Core.Bool.{Bool, true, false}
-use mathlib.Core.List.{List, [], _∷_, map}
+use mathlib.Core.List.{List, [], _∷_, _++_, map}
 use lib.ListN.{replicate}
 use Rattle.wire.specs.Codes
 use Rattle.task.specs.declared.Kind.the-variants.{Simple}
@@ -58,11 +57,17 @@ write = 0x0a ∷ 0 ∷ 0 ∷ 0x10 ∷ 1 ∷ 0 ∷ []
 abbrev pub abort : ℕ → ℕ → ℕ → Event
 abort host tag tag2 = Message (0x83 ∷ 0x30 ∷ 0 ∷ tag ∷ 0 ∷ 0 ∷ host ∷ host ∷ 0 ∷ tag2 ∷ []) buffer
 
--- both learn of the reset; both write under tag 0001h; host 1 aborts its write, and once more; unit 0 starts; command
--- 2 is finished
+-- CLEAR ACA of unit 0 from a host, under a tag of its own
+abbrev pub clearAca : ℕ → ℕ → Event
+clearAca host tag = Message (0x83 ∷ 0x34 ∷ 0 ∷ tag ∷ 0 ∷ 0 ∷ host ∷ host ∷ 0 ∷ []) buffer
+
+-- each host learns of the reset by a STATUS 02h, which gives it the ACA of the unit, and clears that: four events
+abbrev pub bothLearn : List Event → List Event
+bothLearn evs = command 1 0 testUnit ∷ clearAca 1 4 ∷ command 2 0 testUnit ∷ clearAca 2 4 ∷ evs
+
+-- both write under tag 0001h; host 1 aborts its write, and once more; unit 0 starts; command 2 is finished
 unfoldable pub twoHosts : List Event
-twoHosts =
-    command 1 0 testUnit ∷ command 2 0 testUnit ∷ command 1 1 write ∷ command 2 1 write ∷ abort 1 2 1 ∷ abort 1 3 1 ∷ Start 0 ∷ Finish 2 Codes.good Codes.noSense 0 buffer ∷ []
+twoHosts = bothLearn (command 1 1 write ∷ command 2 1 write ∷ abort 1 2 1 ∷ abort 1 3 1 ∷ Start 0 ∷ Finish 2 Codes.good Codes.noSense 0 buffer ∷ [])
 
 abbrev pub written : ℕ → ℕ → Phase → Sequel → ℕ → Task
 written arrival p phase sequel position = record {
@@ -84,12 +89,12 @@ pub record Ledgered (evs : List Event) (entries : List Entry) : Type 0 where
   pub entered : ledger hosts (told (callsOf engine fresh evs)) ≡ entries
   pub agrees : Agrees hosts (told (callsOf engine fresh evs)) (lastTable fresh (callsOf engine fresh evs))
 
--- host 1's write was accepted by event 3 and ended by event 5, its own abort; host 2's was accepted by event 4 and
--- ended by event 8, its status
+-- host 1's write was accepted by event 5 and ended by event 7, its own abort; host 2's was accepted by event 6 and
+-- ended by event 10, its status
 abbrev pub TwoHostsLedger : Type 0
 TwoHostsLedger =
     Ledgered twoHosts
-    (entry (written 1 0 Waiting End 0) 3 5 (byOrder (AbortTask 1)) ∷ entry (written 2 1 Running End 0) 4 8 byStatus ∷ [])
+    (entry (written 1 0 Waiting End 0) 5 7 (byOrder (AbortTask 1)) ∷ entry (written 2 1 Running End 0) 6 10 byStatus ∷ [])
 
 -- what the engine's calls on some events say that they ended: the records, and the units that have to stop
 abbrev pub mapsOf : Call → ℕ × ℕ
@@ -98,29 +103,28 @@ mapsOf c = (c .outcome .ended, c .outcome .stops)
 abbrev pub Says : List Event → List (ℕ × ℕ) → Type 0
 Says evs maps = map mapsOf (callsOf engine fresh evs) ≡ maps
 
--- event 5, the abort, ended the command in record 0, and event 8, the finish, the one in record 1; nothing had to stop
+-- event 7, the abort, ended the command in record 0, and event 10, the finish, the one in record 1; nothing had to
+-- stop
 abbrev pub TwoHostsSay : Type 0
-TwoHostsSay = Says twoHosts ((0, 0) ∷ (0, 0) ∷ (0, 0) ∷ (0, 0) ∷ (1, 0) ∷ (0, 0) ∷ (0, 0) ∷ (2, 0) ∷ [])
+TwoHostsSay = Says twoHosts (replicate 6 (0, 0) ++ ((1, 0) ∷ (0, 0) ∷ (0, 0) ∷ (2, 0) ∷ []))
 
--- the same with host 1's write at work on unit 0 when its abort comes, as event 6: unit 0 has to stop
+-- the same with host 1's write at work on unit 0 when its abort comes, as event 8: unit 0 has to stop
 unfoldable pub atWork : List Event
-atWork =
-    command 1 0 testUnit ∷ command 2 0 testUnit ∷ command 1 1 write ∷ command 2 1 write ∷ Start 0 ∷ abort 1 2 1 ∷ abort 1 3 1 ∷ Start 0
-    ∷ Finish 2 Codes.good Codes.noSense 0 buffer ∷ []
+atWork = bothLearn (command 1 1 write ∷ command 2 1 write ∷ Start 0 ∷ abort 1 2 1 ∷ abort 1 3 1 ∷ Start 0 ∷ Finish 2 Codes.good Codes.noSense 0 buffer ∷ [])
 
 abbrev pub AtWorkSay : Type 0
-AtWorkSay = Says atWork ((0, 0) ∷ (0, 0) ∷ (0, 0) ∷ (0, 0) ∷ (0, 0) ∷ (1, 1) ∷ (0, 0) ∷ (0, 0) ∷ (2, 0) ∷ [])
+AtWorkSay = Says atWork (replicate 7 (0, 0) ++ ((1, 1) ∷ (0, 0) ∷ (0, 0) ∷ (2, 0) ∷ []))
 
 -- both write with CONFIRM under tag 0001h; host 1's is finished after 512 bytes; host 2 aborts its own, and once
 -- more, and would confirm; host 1 confirms
 unfoldable pub confirmedTwoHosts : List Event
 confirmedTwoHosts =
-    command 1 0 testUnit ∷ command 2 0 testUnit ∷ confirmable 1 1 write ∷ confirmable 2 1 write ∷ Start 0 ∷ Finish 1 Codes.good Codes.noSense 512 buffer
-    ∷ abort 2 2 1 ∷ abort 2 3 1 ∷ confirm 2 1 ∷ confirm 1 1 ∷ []
+    bothLearn
+    (confirmable 1 1 write ∷ confirmable 2 1 write ∷ Start 0 ∷ Finish 1 Codes.good Codes.noSense 512 buffer ∷ abort 2 2 1 ∷ abort 2 3 1 ∷ confirm 2 1 ∷ confirm 1 1 ∷ [])
 
--- host 1's write was accepted by event 3 and ended by event 10, its confirmation, not by event 6, its finish; host
--- 2's was accepted by event 4 and ended by event 7, its own abort
+-- host 1's write was accepted by event 5 and ended by event 12, its confirmation, not by event 8, its finish; host
+-- 2's was accepted by event 6 and ended by event 9, its own abort
 abbrev pub ConfirmedLedger : Type 0
 ConfirmedLedger =
     Ledgered confirmedTwoHosts
-    (entry (written 1 0 Unconfirmed Confirm 512) 3 10 byStatus ∷ entry (written 2 1 Waiting Confirm 0) 4 7 (byOrder (AbortTask 1)) ∷ [])
+    (entry (written 1 0 Unconfirmed Confirm 512) 5 12 byStatus ∷ entry (written 2 1 Waiting Confirm 0) 6 9 (byOrder (AbortTask 1)) ∷ [])

@@ -1,5 +1,5 @@
--- What a message asks, and the plan for a ruling, an order, a confirmation and what is asked: a lemma for each way
--- out of the functions of `plan`. Assumes nothing.
+-- What a message asks, the plan for a ruling, an order, a confirmation and what is asked, and what a change that holds
+-- the queue does: a lemma for each way out of the functions of `plan`. Assumes nothing.
 use Prim.Native.Nat.{ℕ, _<_, _≤_}
 use mathlib.Core.Path.{_≡_, _∙_}
 use mathlib.Core.Bool.{Bool, true, false, not}
@@ -24,6 +24,9 @@ use Rattle.task.specs.declared.Phase.the-variants as phase
 use Rattle.task.specs.declared.Sequel.{Sequel}
 use Rattle.task.specs.declared.scan.Pick.{Pick}
 use Rattle.task.specs.declared.select.Selection.{Selection}
+use Rattle.table.specs.Tables.{claimedIn}
+use Rattle.table.specs.declared.Path as path
+use Rattle.table.specs.declared.Unit as unit
 use Rattle.rules.specs.Rules.{deciding, decision}
 use Rattle.rules.specs.Management.{endsOf, orderCode, orderChange}
 use Rattle.rules.specs.declared.change.Change.{Change}
@@ -32,12 +35,13 @@ use Rattle.rules.specs.declared.facts.Facts.{Facts}
 use Rattle.rules.specs.declared.facts.Lookup.{Lookup}
 use Rattle.rules.specs.declared.change.SenderChange.{SenderChange}
 use Rattle.rules.specs.declared.change.SenderChange.the-variants.{ClearMark}
+use Rattle.rules.specs.declared.change.QueueChange.{QueueChange}
 use Rattle.rules.specs.declared.command.Ruling.{Ruling}
 use Rattle.rules.specs.declared.command.Ruling.the-variants.{Refuse, Respond, Report, Invalid, Accept}
 use Rattle.rules.specs.declared.command.Decision.{Decision}
 use Rattle.rules.specs.declared.manage.Order.{Order}
 use Rattle.rules.specs.declared.manage.Order.the-variants as order
-use Rattle.plan.specs.Plans.{askedOf, kindOf, sequelOf, planned, refusing, ruled, orderPlan, isAwaited, confirmPlan, planOf}
+use Rattle.plan.specs.Plans.{askedOf, kindOf, sequelOf, planned, refusing, reportChange, ruled, orderPlan, isAwaited, confirmPlan, planOf, senderAfter, pathsAfter, unitsAfter}
 use Rattle.plan.specs.declared.Request.{Request}
 use Rattle.plan.specs.declared.Request.the-variants.{Command, Manage, Confirm}
 use Rattle.plan.specs.declared.Asked.{Asked}
@@ -107,8 +111,9 @@ module _ (next p tag lun : ℕ) (flags : Flags) {r : Ruling} where
   pub responds : {code : ReturnCode} {sender : SenderChange} → r ≡ Respond code sender → planned (answer.Reply (reply.Response tag code)) (change.OfSender p sender) records.Nothing ≡ ruled next p tag lun flags r
   responds e = rw e
 
-  pub reports : {status : StatusByte} {sense : Sense} {sender : SenderChange} → r ≡ Report status sense sender → planned (answer.Reply (reply.Status tag status sense)) (change.OfSender p sender) records.Nothing ≡ ruled next p tag lun flags r
-  reports e = rw e
+  pub reports : {status : StatusByte} {sense : Sense} {sender : SenderChange} {queue : QueueChange} {c : Change} → r ≡ Report status sense sender queue → c ≡ reportChange p lun sender queue
+      → planned (answer.Reply (reply.Status tag status sense)) c records.Nothing ≡ ruled next p tag lun flags r
+  reports e h = rw (e, h)
 
   pub faults : {sender : SenderChange} → r ≡ Invalid sender → planned (answer.Reply (reply.Invalid tag)) (change.OfSender p sender) records.Nothing ≡ ruled next p tag lun flags r
   faults e = rw e
@@ -190,3 +195,14 @@ module _ (s : Lookup) (next p tag : ℕ) (m : List ℕ) {w : Request} {pl : Plan
   by-confirming e k = rw e k
 
 pub ruleset plan-cases = (by-rules, by-order, by-confirming)
+
+-- ---- a change that holds the queue
+
+module _ {c : Change} {p lun : ℕ} {sender : SenderChange} (e : c ≡ change.Holding p sender lun) where
+  pub holding-paths : (paths : List path.Path) (count : ℕ) {l : List path.Path} → l ≡ senderAfter paths p sender → l ≡ pathsAfter paths count c
+  holding-paths paths count h = rw e h
+
+  pub holding-units : (units : List unit.Unit) {l : List unit.Unit} → l ≡ claimedIn units lun p → l ≡ unitsAfter units c
+  holding-units units h = rw e h
+
+pub ruleset holding-cases = (holding-paths, holding-units)

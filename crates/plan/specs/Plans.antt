@@ -22,7 +22,7 @@ use Rattle.task.specs.declared.Kind.the-variants as kind
 use Rattle.task.specs.declared.Sequel.{Sequel}
 use Rattle.task.specs.declared.Sequel.the-variants as sequel
 use Rattle.task.specs.declared.select.Place.the-variants.{On}
-use Rattle.table.specs.Tables.{markedIn, attentionGoneIn, clearedAttentionIn, resetAttentionIn, acaClearedIn}
+use Rattle.table.specs.Tables.{markedIn, attentionGoneIn, clearedAttentionIn, resetAttentionIn, claimedIn, acaClearedIn}
 use Rattle.table.specs.declared.Path as path
 use Rattle.table.specs.declared.Unit as unit
 use Rattle.rules.specs.Rules.{deciding}
@@ -33,6 +33,8 @@ use Rattle.rules.specs.declared.facts.Facts.{Facts}
 use Rattle.rules.specs.declared.facts.Lookup.{Lookup}
 use Rattle.rules.specs.declared.change.SenderChange.{SenderChange}
 use Rattle.rules.specs.declared.change.SenderChange.the-variants.{Stays, SetMark, ClearMark, ClearMarkAndAttention}
+use Rattle.rules.specs.declared.change.QueueChange.{QueueChange}
+use Rattle.rules.specs.declared.change.QueueChange.the-variants.{Leaves, Holds}
 use Rattle.rules.specs.declared.command.Ruling.{Ruling}
 use Rattle.rules.specs.declared.command.Ruling.the-variants.{Refuse, Respond, Report, Invalid, Accept}
 use Rattle.rules.specs.declared.manage.Order.{Order}
@@ -115,11 +117,16 @@ planned a c d = record { answer = a; change = c; records = d }
 abbrev pub refusing : Refusal → Plan
 refusing n = planned (answer.Refused n) change.Nothing records.Nothing
 
+-- a STATUS to a command of the path at p: what it does to its sender and, where the rule holds the queue, to its unit
+abbrev pub reportChange : ℕ → ℕ → SenderChange → QueueChange → Change
+reportChange p lun sender Leaves = change.OfSender p sender
+reportChange p lun sender Holds = change.Holding p sender lun
+
 -- a ruling on a command of the path at p with a TAG, a LUN and flags, under the next arrival number
 abbrev pub ruled : ℕ → ℕ → ℕ → ℕ → Flags → Ruling → Plan
 ruled next p tag lun flags (Refuse n) = refusing n
 ruled next p tag lun flags (Respond code sender) = planned (answer.Reply (reply.Response tag code)) (change.OfSender p sender) records.Nothing
-ruled next p tag lun flags (Report status sense sender) = planned (answer.Reply (reply.Status tag status sense)) (change.OfSender p sender) records.Nothing
+ruled next p tag lun flags (Report status sense sender queue) = planned (answer.Reply (reply.Status tag status sense)) (reportChange p lun sender queue) records.Nothing
 ruled next p tag lun flags (Invalid sender) = planned (answer.Reply (reply.Invalid tag)) (change.OfSender p sender) records.Nothing
 ruled next p tag lun flags Accept = planned (answer.Accepted next) (change.OfSender p ClearMark) (records.Accept p tag lun (kindOf (flags .queue)) (sequelOf (flags .confirm)))
 
@@ -164,13 +171,16 @@ senderAfter paths p ClearMarkAndAttention = attentionGoneIn (markedIn paths p fa
 abbrev pub pathsAfter : List path.Path → ℕ → Change → List path.Path
 pathsAfter paths count change.Nothing = paths
 pathsAfter paths count (change.OfSender p sender) = senderAfter paths p sender
+pathsAfter paths count (change.Holding p sender unit) = senderAfter paths p sender
 pathsAfter paths count (change.ClearedAttention others) = clearedAttentionIn paths others
 pathsAfter paths count (change.AcaGoes unit) = paths
 pathsAfter paths count (change.Resets place) = resetAttentionIn paths count false
 
+-- the units: where the queue is held, the unit gets ACA for the sender, unless it has one, as with a finish that failed
 abbrev pub unitsAfter : List unit.Unit → Change → List unit.Unit
 unitsAfter units change.Nothing = units
 unitsAfter units (change.OfSender p sender) = units
+unitsAfter units (change.Holding p sender unit) = claimedIn units unit p
 unitsAfter units (change.ClearedAttention others) = units
 unitsAfter units (change.AcaGoes unit) = acaClearedIn units (On unit)
 unitsAfter units (change.Resets place) = acaClearedIn units place

@@ -1,8 +1,9 @@
 // The plan: what a message asks, the answer to it, and what that does to the table. No table travels here.
 ghost use mathlib.Core.Path.{_≡_};
-ghost use Rattle.plan.specs.Plans.{askedOf, tagAsked, unitAsked, clearsSet, goesByUnit, kindOf, sequelOf, planned, refusing, ruled, orderPlan, isAwaited, confirmPlan, planOf, senderAfter, pathsAfter, unitsAfter};
+ghost use Rattle.plan.specs.Plans.{askedOf, tagAsked, unitAsked, clearsSet, goesByUnit, kindOf, sequelOf, planned, refusing, reportChange, ruled, orderPlan, isAwaited, confirmPlan, planOf, senderAfter, pathsAfter, unitsAfter};
 use reply::Reply;
 use rules::change::Change;
+use rules::change::QueueChange;
 use rules::change::SenderChange;
 use rules::command::Ruling;
 use rules::facts::Facts;
@@ -227,6 +228,20 @@ pub fn refuse(n: Refusal) -> Plan
     tell(Answer::Refused(n))
 }
 
+// What a STATUS to a command of the path at p does: to its sender, and to the queue of its unit.
+fn report_change(p: u8, lun: u8, sender: SenderChange, queue: QueueChange) -> Change
+    ensures { λ r. ⌜ r ≡ reportChange p lun sender queue ⌝ }
+{
+    match queue {
+        QueueChange::Leaves => Change::OfSender(p, sender),
+        QueueChange::Holds => Change::Holding {
+            path: p,
+            sender,
+            unit: lun,
+        },
+    }
+}
+
 // The plan that a ruling on a command of the path at p comes to, under the next arrival number.
 fn rule(next: u64, p: u8, tag: u16, lun: u8, flags: Flags, r: Ruling) -> Plan
     ensures { λ o. ⌜ o ≡ ruled next p tag lun flags r ⌝ }
@@ -238,9 +253,9 @@ fn rule(next: u64, p: u8, tag: u16, lun: u8, flags: Flags, r: Ruling) -> Plan
             change: Change::OfSender(p, sender),
             records: RecordChange::Nothing,
         },
-        Ruling::Report(status, sense, sender) => Plan {
+        Ruling::Report(status, sense, sender, queue) => Plan {
             answer: Answer::Reply(Reply::Status { tag, status, sense }),
-            change: Change::OfSender(p, sender),
+            change: report_change(p, lun, sender, queue),
             records: RecordChange::Nothing,
         },
         Ruling::Invalid(sender) => Plan {
@@ -373,6 +388,11 @@ pub fn change_paths(paths: [Path; PATHS], count: u8, c: Change) -> [Path; PATHS]
     match c {
         Change::Nothing => paths,
         Change::OfSender(p, sender) => change_sender(paths, p, sender),
+        Change::Holding {
+            path,
+            sender,
+            unit: _,
+        } => change_sender(paths, path, sender),
         Change::ClearedAttention(others) => table::paths::give_cleared_attention(paths, others),
         Change::AcaGoes(_) => paths,
         Change::Resets(_) => table::paths::give_reset_attention(paths, count, false),
@@ -386,6 +406,11 @@ pub fn change_units(units: [Unit; UNITS], c: Change) -> [Unit; UNITS]
     match c {
         Change::Nothing => units,
         Change::OfSender(_, _) => units,
+        Change::Holding {
+            path,
+            sender: _,
+            unit,
+        } => table::units::claim(units, unit, path),
         Change::ClearedAttention(_) => units,
         Change::AcaGoes(unit) => table::units::clear_aca(units, Place::On(unit)),
         Change::Resets(place) => table::units::clear_aca(units, place),

@@ -1,5 +1,6 @@
--- A command, step by step: page 01's list of eleven rules, line by line, with rule 4 as M-100 of page 02 has it. Rule
--- 1 has a line for each of its answers; where none of them applies, the list goes on.
+-- A command, step by step: page 01's list of eleven rules, line by line, with rule 4 as M-100 of page 02 has it, and
+-- which rules hold the queue as M-103 has it. Rule 1 has a line for each of its answers; where none of them applies,
+-- the list goes on.
 use Prim.Native.Nat.{ℕ, _+_, _/_, _%_}
 use mathlib.Core.Bool.{Bool, true, cond, not, _&&_, _||_}
 use mathlib.Core.List.{List, [], _∷_, _++_}
@@ -14,6 +15,7 @@ use Rattle.table.specs.Tables.{isReset, isCleared}
 use Rattle.rules.specs.First.{Rule, rule, firstThat}
 use Rattle.rules.specs.declared.facts.Facts.{Facts}
 use Rattle.rules.specs.declared.change.SenderChange.the-variants.{Stays, SetMark, ClearMark, ClearMarkAndAttention}
+use Rattle.rules.specs.declared.change.QueueChange.the-variants.{Leaves, Holds}
 use Rattle.rules.specs.declared.command.Ruling.{Ruling}
 use Rattle.rules.specs.declared.command.Ruling.the-variants.{Refuse, Respond, Report, Invalid, Accept}
 use Rattle.rules.specs.declared.command.Decision.{Decision}
@@ -63,14 +65,17 @@ firstSet (x ∷ xs) = cond (eqb x 0) (firstSet xs) x
 abbrev pub reservedField : List ℕ → ℕ
 reservedField m = firstSet (byte m 9 ∷ byte m 10 / 4 % 4 ∷ byte m 11 ∷ byte m 14 ∷ byte m 15 ∷ [])
 
--- ---- the list: number, when, the field value behind it, the answer with what it does to the sender's mark and attention
+-- ---- the list: number, when, the field value behind it, the answer
+
+-- beside the answer stands what it does to the sender's mark and attention, and beside a STATUS whether it holds the
+-- queue of the unit. A RESPONSE, an `invalid` and a refusal have no such column: they never do
 
 -- 1. room, and 2. the length
 unfoldable pub roomRules : Facts → Flags → List ℕ → List Rule
 roomRules f g m =
     rule 1 (resumesUnmarked f g) (byte m 10) (Respond Codes.invalidField Stays)
     ∷ rule 1 (missesResume f g) (byte m 10) (Refuse Codes.discarded)
-    ∷ rule 1 (not (f .room)) (byte m 10) (Report Codes.taskSetFull Codes.noSense SetMark)
+    ∷ rule 1 (not (f .room)) (byte m 10) (Report Codes.taskSetFull Codes.noSense SetMark Leaves)
     ∷ rule 2 (cutShort m) (length m) (Refuse Codes.tooShort)
     ∷ []
 
@@ -85,18 +90,18 @@ fieldRules f g m =
 -- 6. to 8.: the unit, its ACA, the sender's attention
 unfoldable pub unitRules : Facts → Flags → List ℕ → List Rule
 unitRules f g m =
-    rule 6 (not (f .attached)) (byte m 8) (Report Codes.checkCondition Codes.noSuchUnit ClearMark)
-    ∷ rule 7 (keptOutByAca f g) (byte m 10) (Report Codes.acaActive Codes.noSense ClearMark)
-    ∷ rule 7 (acaKindWithoutAca f g) (byte m 10) (Report Codes.checkCondition Codes.noAcaThere ClearMark)
-    ∷ rule 8 (resetToReport f m) (opcode m) (Report Codes.checkCondition Codes.resetOccurred ClearMarkAndAttention)
-    ∷ rule 8 (clearedToReport f m) (opcode m) (Report Codes.checkCondition Codes.clearedByAnother ClearMarkAndAttention)
+    rule 6 (not (f .attached)) (byte m 8) (Report Codes.checkCondition Codes.noSuchUnit ClearMark Leaves)
+    ∷ rule 7 (keptOutByAca f g) (byte m 10) (Report Codes.acaActive Codes.noSense ClearMark Leaves)
+    ∷ rule 7 (acaKindWithoutAca f g) (byte m 10) (Report Codes.checkCondition Codes.noAcaThere ClearMark Holds)
+    ∷ rule 8 (resetToReport f m) (opcode m) (Report Codes.checkCondition Codes.resetOccurred ClearMarkAndAttention Holds)
+    ∷ rule 8 (clearedToReport f m) (opcode m) (Report Codes.checkCondition Codes.clearedByAnother ClearMarkAndAttention Holds)
     ∷ []
 
 -- 9. and 10.: the command block
 unfoldable pub blockRules : List ℕ → List Rule
 blockRules m =
-    rule 9 (noBlock m) (opcode m) (Report Codes.checkCondition Codes.unknownCommand ClearMark)
-    ∷ rule 10 (linked m) (byte m (15 + blockLength m)) (Report Codes.checkCondition Codes.invalidInBlock ClearMark)
+    rule 9 (noBlock m) (opcode m) (Report Codes.checkCondition Codes.unknownCommand ClearMark Holds)
+    ∷ rule 10 (linked m) (byte m (15 + blockLength m)) (Report Codes.checkCondition Codes.invalidInBlock ClearMark Holds)
     ∷ []
 
 -- 11. accepted

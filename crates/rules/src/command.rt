@@ -5,6 +5,7 @@ ghost use Rattle.wire.specs.Codes;
 ghost use Rattle.rules.specs.First.{firstThat};
 ghost use Rattle.rules.specs.Rules;
 ghost use Rattle.rules.specs.Rules.{asksAca, resumesUnmarked, missesResume, passesAttention, resetToReport, clearedToReport, fieldRules, unitRules, blockRules, accepts, deciding, decision};
+use crate::change::QueueChange;
 use crate::change::SenderChange;
 use crate::facts::Facts;
 use wire::codes::INQUIRY;
@@ -16,11 +17,12 @@ use wire::codes::Sense;
 use wire::codes::StatusByte;
 use wire::message::Flags;
 
-// What a rule answers, with what that does to the sender. A refusal changes nothing.
+// What a rule answers, with what that does to the sender; with a STATUS also what it does to the queue of the unit. A
+// refusal changes nothing.
 pub enum Ruling {
     Refuse(Refusal),
     Respond(ReturnCode, SenderChange),
-    Report(StatusByte, Sense, SenderChange),
+    Report(StatusByte, Sense, SenderChange, QueueChange),
     Invalid(SenderChange),
     Accept,
 }
@@ -133,20 +135,36 @@ fn respond(rule: u8, code: ReturnCode, sender: SenderChange) -> Decision
     }
 }
 
+// A STATUS that leaves the queue as it is.
 fn report(rule: u8, status: StatusByte, sense: Sense, sender: SenderChange) -> Decision
-    ensures { λ r. ⌜ r ≡ Rules.decided rule (Ruling.Report status sense sender) ⌝ }
+    ensures { λ r. ⌜ r ≡ Rules.decided rule (Ruling.Report status sense sender QueueChange.Leaves) ⌝ }
 {
     Decision {
         rule,
-        ruling: Ruling::Report(status, sense, sender),
+        ruling: Ruling::Report(status, sense, sender, QueueChange::Leaves),
     }
 }
 
-// CHECK CONDITION, with sense.
-fn check(rule: u8, sense: Sense, sender: SenderChange) -> Decision
-    ensures { λ r. ⌜ r ≡ Rules.decided rule (Ruling.Report Codes.checkCondition sense sender) ⌝ }
+// CHECK CONDITION, with sense, that holds the queue.
+fn hold(rule: u8, sense: Sense, sender: SenderChange) -> Decision
+    ensures { λ r. ⌜ r ≡ Rules.decided rule (Ruling.Report Codes.checkCondition sense sender QueueChange.Holds) ⌝ }
 {
-    report(rule, StatusByte::CHECK_CONDITION, sense, sender)
+    Decision {
+        rule,
+        ruling: Ruling::Report(
+            StatusByte::CHECK_CONDITION,
+            sense,
+            sender,
+            QueueChange::Holds,
+        ),
+    }
+}
+
+// Rule 8: the pending attention is reported, and goes.
+fn tell_attention(sense: Sense) -> Decision
+    ensures { λ r. ⌜ r ≡ Rules.decided 8 (Ruling.Report Codes.checkCondition sense SenderChange.ClearMarkAndAttention QueueChange.Holds) ⌝ }
+{
+    hold(8, sense, SenderChange::ClearMarkAndAttention)
 }
 
 // Rules 9 to 11: the command block.
@@ -154,10 +172,10 @@ fn by_block(m: &[u8]) -> Decision
     ensures { λ r. ⌜ r ≡ decision (firstThat (blockRules (now (m .entry))) (accepts (now (m .entry)))) ⌝ }
 {
     if wire::block::no_length(m) {
-        return check(9, Sense::UNKNOWN_COMMAND, SenderChange::ClearMark);
+        return hold(9, Sense::UNKNOWN_COMMAND, SenderChange::ClearMark);
     }
     if wire::block::is_linked(m) {
-        return check(10, Sense::INVALID_IN_BLOCK, SenderChange::ClearMark);
+        return hold(10, Sense::INVALID_IN_BLOCK, SenderChange::ClearMark);
     }
     Decision {
         rule: 11,
@@ -170,7 +188,12 @@ fn by_unit(f: Facts, g: Flags, m: &[u8]) -> Decision
     ensures { λ r. ⌜ r ≡ decision (firstThat (unitRules f g (now (m .entry)) ++ blockRules (now (m .entry))) (accepts (now (m .entry)))) ⌝ }
 {
     if !f.attached {
-        return check(6, Sense::NO_SUCH_UNIT, SenderChange::ClearMark);
+        return report(
+            6,
+            StatusByte::CHECK_CONDITION,
+            Sense::NO_SUCH_UNIT,
+            SenderChange::ClearMark,
+        );
     }
     if kept_out_by_aca(f, g) {
         return report(
@@ -181,21 +204,13 @@ fn by_unit(f: Facts, g: Flags, m: &[u8]) -> Decision
         );
     }
     if aca_kind_without_aca(f, g) {
-        return check(7, Sense::NO_ACA_THERE, SenderChange::ClearMark);
+        return hold(7, Sense::NO_ACA_THERE, SenderChange::ClearMark);
     }
     if reset_to_report(f, m) {
-        return check(
-            8,
-            Sense::RESET_OCCURRED,
-            SenderChange::ClearMarkAndAttention,
-        );
+        return tell_attention(Sense::RESET_OCCURRED);
     }
     if cleared_to_report(f, m) {
-        return check(
-            8,
-            Sense::CLEARED_BY_ANOTHER,
-            SenderChange::ClearMarkAndAttention,
-        );
+        return tell_attention(Sense::CLEARED_BY_ANOTHER);
     }
     by_block(m)
 }

@@ -2,6 +2,7 @@
 pub mod Exact
 pub mod Seeing
 pub mod Keeps
+pub mod Acas
 pub mod Unique
 mod Checking
 mod SeenCases

@@ -17,6 +17,7 @@ answers-are-one = record {
   drop-attention = λ _ _ _ _. determined;
   give-reset-attention = λ _ _ _ _ _. determined;
   give-cleared-attention = λ _ _ _ _. determined;
+  claim = λ _ _ _ _ _. determined;
   clear-aca = λ _ _ _ _. determined;
   pick = λ _ _ _ _. determined;
   task-at = λ _ _ _ _. determined;

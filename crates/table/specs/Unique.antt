@@ -10,7 +10,7 @@ use Rattle.task.specs.declared.Task.{Task}
 use Rattle.task.specs.declared.select.Selection.{Selection}
 use Rattle.task.specs.declared.select.Place.{Place}
 use Rattle.table.specs.Tables.{zeroTable, pathAt, unitAt, taskAt, bitOf, isAttached, isNothing, isReset, isCleared, hasAca, ownedBy, acaAt, placeOf, pathOf, pickOf, hasRoom}
-use Rattle.table.specs.Tables.{markedIn, attentionGoneIn, resetAttentionIn, clearedAttentionIn, acaClearedIn, othersOn}
+use Rattle.table.specs.Tables.{markedIn, attentionGoneIn, resetAttentionIn, clearedAttentionIn, claimedIn, acaClearedIn, othersOn}
 use Rattle.table.specs.Tables.{accepted, endedBy, started, restarted, finished, resetOf}
 use Rattle.table.specs.Steps.{stepped, finishStep, finishUnits, holdersOf, runningAmong}
 use Rattle.table.specs.Setup.{badList, setupTable}
@@ -35,6 +35,7 @@ pub record AnswersAreOne : Type 0 where
   pub drop-attention : (paths : List path.Path) (p : ℕ) → One (attentionGoneIn paths p)
   pub give-reset-attention : (paths : List path.Path) (count : ℕ) (unmark : Bool) → One (resetAttentionIn paths count unmark)
   pub give-cleared-attention : (paths : List path.Path) (others : ℕ) → One (clearedAttentionIn paths others)
+  pub claim : (units : List unit.Unit) (unit path : ℕ) → One (claimedIn units unit path)
   pub clear-aca : (units : List unit.Unit) (place : Place) → One (acaClearedIn units place)
   pub pick : (t : Table) (s : Selection) → One (pickOf t s)
   pub task-at : (t : Table) (i : ℕ) → One (taskAt t i)

@@ -47,8 +47,8 @@ pub fn aca_at(units: [Unit; UNITS], unit: u8) -> Aca
     a.aca
 }
 
-// The unit's ACA is the path's, unless it has one.
-pub(crate) fn claim(mut units: [Unit; UNITS], unit: u8, path: u8) -> [Unit; UNITS]
+// The unit gets ACA owned by the path, unless it has one: where a finish failed, and where a rule holds the queue.
+pub fn claim(mut units: [Unit; UNITS], unit: u8, path: u8) -> [Unit; UNITS]
     ensures { λ r. ⌜ r ≡ claimedIn units unit path ⌝ }
 {
     let u = unit as usize;

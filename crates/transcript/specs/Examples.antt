@@ -1,5 +1,5 @@
--- Page 01's worked input, byte for byte, and the text that it is played to. Each finish, event 3, has the bytes
--- transferred as its last number.
+-- Page 01's worked input, byte for byte, and the text that it is played to, as page 02's M-103 has it. Each finish,
+-- event 3, has the bytes transferred as its last number.
 use Prim.Native.Nat.{ℕ}
 use mathlib.Core.Path.{_≡_}
 use mathlib.Core.List.{List, [], _∷_, _++_}
@@ -17,13 +17,13 @@ workedInput =
     ∷ 0x03 ∷ 0x01 ∷ 0x00 ∷ 0x00 ∷ 0x00 ∷ 0x00 ∷ 0x00
     ∷ []
 
--- its lines, as page 01 prints them
+-- its lines: the first command is answered STATUS 02h and holds the queue
 abbrev pub workedLines : List ℕ
 workedLines =
     ascii "1 status 0005 02 06 29 00\n"
-    ++ ascii "2 accepted 1\n"
-    ++ ascii "3 started 1\n"
-    ++ ascii "4 status 0006 00 00 00 00\n"
+    ++ ascii "2 status 0006 30 00 00 00\n"
+    ++ ascii "3 refused 8\n"
+    ++ ascii "4 refused 9\n"
     ++ ascii "5 refused 9\n"
     ++ ascii "end ok 0\n"
 

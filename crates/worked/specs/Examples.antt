@@ -1,20 +1,25 @@
--- Page 01's proved examples a to l as one table, its worked calls, confirmed status as another table, and what each
--- order ends. Paths 1 and 2, mask 01h, no attention, nothing live unless said; tag 0005h, path 1, kind 3, zero CDB.
+-- Page 01's proved examples a to l as one table, its worked calls as page 02's M-103 has them, which answers hold the
+-- queue as another table, confirmed status as a third, and what each order ends. Paths 1 and 2, mask 01h, no attention,
+-- nothing live unless said; tag 0005h, path 1, kind 3, zero CDB.
 use Prim.Native.Nat.{ℕ, zero, suc, _+_, _-_, _^_}
 use mathlib.Core.Path.{_≡_}
-use mathlib.Core.Bool.{false}
+use mathlib.Core.Bool.{Bool, true, false}
 use mathlib.Core.List.{List, [], _∷_, map}
 use lib.ListN.{replicate}
 use Rattle.wire.specs.Codes
 use Rattle.reply.specs.Calls.{placed}
 use Rattle.task.specs.Tasks.{noTask, acceptedAs}
 use Rattle.task.specs.declared.Task.{Task}
-use Rattle.task.specs.declared.Kind.the-variants.{Aca, Simple}
+use Rattle.task.specs.declared.Kind.the-variants as kind
+use Rattle.task.specs.declared.Kind.the-variants.{Simple}
 use Rattle.task.specs.declared.Sequel.the-variants.{End, Confirm}
-use Rattle.table.specs.Tables.{noPath, noUnit, accepted, started, finished}
+use Rattle.table.specs.Tables.{noPath, noUnit, pathAt, accepted, started, finished}
 use Rattle.table.specs.declared.Table.{Table}
 use Rattle.table.specs.declared.Path as path
-use Rattle.table.specs.declared.Aca.the-variants.{Owned}
+use Rattle.table.specs.declared.Unit as unit
+use Rattle.table.specs.declared.Aca.{Aca}
+use Rattle.table.specs.declared.Aca.the-variants.{Clear, Owned}
+use Rattle.table.specs.declared.Attention.{Attention}
 use Rattle.table.specs.declared.Attention.the-variants as attention
 use Rattle.plan.specs.declared.Answer.{Answer}
 use Rattle.reply.specs.declared.Reply.the-variants.{Response, Status, Invalid}
@@ -147,7 +152,10 @@ said e = (e .answer, placed (e .reply) buffer)
 abbrev pub ExamplesHold : Type 0
 ExamplesHold = map got examples ≡ map said examples
 
--- page 01's worked calls: setup, two commands, a start, a finish, a late finish; what the five events answer
+-- ---- the worked calls
+
+-- page 01's: setup, two commands, a start, a finish, a late finish; what the five events answer. The first command is
+-- answered STATUS 02h by rule 8, and holds the queue: nothing is accepted, started or finished behind it
 abbrev pub test : ℕ → List ℕ
 test tag = 0x83 ∷ 0x10 ∷ 0 ∷ tag ∷ 0 ∷ 0 ∷ 0 ∷ 1 ∷ 0 ∷ 0 ∷ 3 ∷ 0 ∷ 0 ∷ 0 ∷ 0 ∷ 0 ∷ zeros
 
@@ -169,7 +177,143 @@ worked5 = finishOf (worked4 .table) 1 (Codes.statusByte 0x00) Codes.noSense 0 64
 abbrev pub WorkedCalls : Type 0
 WorkedCalls =
     map (λ (o : Outcome). o .answer) (worked1 ∷ worked2 ∷ worked3 ∷ worked4 ∷ worked5 ∷ [])
-    ≡ Reply (Status 5 (Codes.statusByte 0x02) (Codes.sense 0x06 0x29 0x00)) ∷ Accepted 1 ∷ Started 0 1 ∷ Reply (Status 6 (Codes.statusByte 0x00) Codes.noSense) ∷ Refused (Codes.refusal 9) ∷ []
+    ≡ Reply (Status 5 (Codes.statusByte 0x02) (Codes.sense 0x06 0x29 0x00)) ∷ Reply (Status 6 (Codes.statusByte 0x30) Codes.noSense) ∷ Refused (Codes.refusal 8) ∷ Refused (Codes.refusal 9)
+    ∷ Refused (Codes.refusal 9) ∷ []
+
+-- the same with CLEAR ACA, tag 0007h, after the first command: the second is accepted, started and finished
+abbrev pub clearing : Outcome
+clearing = messageOf (worked1 .table) (0x83 ∷ 0x34 ∷ 0 ∷ 7 ∷ 0 ∷ 0 ∷ 0 ∷ 1 ∷ 0 ∷ []) 64
+
+abbrev pub cleared2 : Outcome
+cleared2 = messageOf (clearing .table) (test 6) 64
+
+abbrev pub cleared3 : Outcome
+cleared3 = startOf (cleared2 .table) 0
+
+abbrev pub cleared4 : Outcome
+cleared4 = finishOf (cleared3 .table) 1 (Codes.statusByte 0x00) Codes.noSense 0 64
+
+abbrev pub cleared5 : Outcome
+cleared5 = finishOf (cleared4 .table) 1 (Codes.statusByte 0x00) Codes.noSense 0 64
+
+abbrev pub ClearedCalls : Type 0
+ClearedCalls =
+    map (λ (o : Outcome). o .answer) (clearing ∷ cleared2 ∷ cleared3 ∷ cleared4 ∷ cleared5 ∷ [])
+    ≡ Reply (Response 7 (Codes.returnCode 0x00)) ∷ Accepted 1 ∷ Started 0 1 ∷ Reply (Status 6 (Codes.statusByte 0x00) Codes.noSense) ∷ Refused (Codes.refusal 9) ∷ []
+
+-- ---- which answers hold the queue
+
+-- path 1 with a mark or none, and an attention
+abbrev pub first : Bool → Attention → path.Path
+first full pending = record { id = 1; full = full; attention = pending }
+
+-- the quiet table with another first path, and another ACA on unit 0
+abbrev pub quietWith : path.Path → Aca → Table
+quietWith a aca = record {
+  live = 0;
+  next = 1;
+  count = 2;
+  attached = 0x01;
+  paths = a ∷ listed 2 ∷ replicate 6 noPath;
+  units = record { aca = aca } ∷ replicate 7 noUnit;
+  tasks = quiet .tasks;
+}
+
+-- path 1 has reset attention, cleared attention; it is marked as well; unit 0 has ACA of path 1, of path 2
+abbrev pub attentive : Attention → Aca → Table
+attentive pending aca = quietWith (first false pending) aca
+
+abbrev pub marked : Table
+marked = quietWith (first true attention.Reset) Clear
+
+abbrev pub mine : Table
+mine = quietWith (listed 1) (Owned 0)
+
+abbrev pub theirs : Table
+theirs = quietWith (listed 1) (Owned 1)
+
+-- kind ACA; LINK set
+abbrev pub acaKind : List ℕ → List ℕ
+acaKind cdb = command 1 0 0 0 cdb
+
+abbrev pub linkSet : List ℕ
+linkSet = 0 ∷ 0 ∷ 0 ∷ 0 ∷ 0 ∷ 1 ∷ []
+
+-- a message with its answer, and after it: the ACA of unit 0, and path 1 with its mark and attention
+pub record Hold : Type 0 where
+  pub example : Example
+  pub aca : Aca
+  pub sender : path.Path
+
+abbrev pub row : Example → Aca → path.Path → Hold
+row e aca a = record { example = e; aca = aca; sender = a }
+
+-- by the number of the rule that answers
+unfoldable pub holdings : List Hold
+holdings =
+    row (check quiet (acaKind zeros) 0x05 0x49) (Owned 0) (listed 1)  -- 7: no ACA and kind ACA
+    ∷ row (check (attentive attention.Reset Clear) (acaKind zeros) 0x05 0x49) (Owned 0) (first false attention.Reset)  -- the attention stays
+    ∷ row (check (attentive attention.Reset Clear) plain 0x06 0x29) (Owned 0) (listed 1)  -- 8: the attention goes, the ACA comes
+    ∷ row (check (attentive attention.Cleared Clear) plain 0x06 0x2f) (Owned 0) (listed 1)
+    ∷ row (check marked resumed 0x06 0x29) (Owned 0) (listed 1)  -- the mark goes too
+    ∷ row (check quiet (command 1 0 3 0 (0x60 ∷ [])) 0x05 0x20) (Owned 0) (listed 1)  -- 9
+    ∷ row (check quiet (command 1 0 3 0 linkSet) 0x05 0x24) (Owned 0) (listed 1)  -- 10
+    ∷ row (check (attentive attention.Reset (Owned 0)) (acaKind zeros) 0x06 0x29) (Owned 0) (listed 1)  -- of the owner: 8
+    ∷ row (check mine (acaKind (0x60 ∷ [])) 0x05 0x20) (Owned 0) (listed 1)  -- 9
+    ∷ row (check mine (acaKind linkSet) 0x05 0x24) (Owned 0) (listed 1)  -- 10
+    ∷ row (status mine plain 0x30) (Owned 0) (listed 1)  -- 7: 30h to the owner, to another
+    ∷ row (status theirs (acaKind zeros) 0x30) (Owned 1) (listed 1)
+    ∷ row (status (attentive attention.Reset (Owned 1)) plain 0x30) (Owned 1) (first false attention.Reset)
+    ∷ row (check quiet (command 1 7 3 0 zeros) 0x05 0x25) Clear (listed 1)  -- 6
+    ∷ row (status full plain 0x28) Clear (first true attention.Nothing)  -- 1: 28h
+    ∷ row (response quiet resumed 0xff) Clear (listed 1)  -- 1: FFh
+    ∷ row (refuses (quietWith (first true attention.Nothing) Clear) plain 4) Clear (first true attention.Nothing)  -- 1: 4
+    ∷ row (refuses quiet (command 1 0 3 0 (replicate 5 0)) 1) Clear (listed 1)  -- 2
+    ∷ row (response quiet (command 1 0 3 1 zeros) 0xff) Clear (listed 1)  -- 3
+    ∷ row (invalid quiet (command 1 0 0x53 0 zeros)) Clear (listed 1)  -- 4
+    ∷ row (response (accepted quiet 0 5 0 Simple End) plain 0x04) Clear (listed 1)  -- 5
+    ∷ row (accept quiet plain 1) Clear (listed 1)  -- 11
+    ∷ []
+
+abbrev pub after : Hold → (Answer × List ℕ) × (List unit.Unit × path.Path)
+after h = let t = messageOf (h .example .table) (h .example .message) 64 .table in (got (h .example), (t .units, pathAt t 0))
+
+-- no other unit has an ACA
+abbrev pub expected : Hold → (Answer × List ℕ) × (List unit.Unit × path.Path)
+expected h = (said (h .example), (record { aca = h .aca } ∷ replicate 7 noUnit, h .sender))
+
+abbrev pub HoldingsHold : Type 0
+HoldingsHold = map after holdings ≡ map expected holdings
+
+-- an ACA command that was answered 05h/49h passes rule 7 when it is sent again: it is accepted, or with attention
+-- pending answered 06h/29h, and accepted the third time
+abbrev pub sendsAca : Table → Outcome
+sendsAca t = messageOf t (acaKind zeros) 64
+
+abbrev pub AgainPasses : Type 0
+AgainPasses =
+    (sendsAca (sendsAca quiet .table) .answer ≡ Accepted 1)
+    × (map (λ (o : Outcome). o .answer) (let u = attentive attention.Reset Clear in sendsAca u ∷ sendsAca (sendsAca u .table) ∷ sendsAca (sendsAca (sendsAca u .table) .table) ∷ [])
+    ≡ Reply (Status 5 Codes.checkCondition Codes.noAcaThere) ∷ Reply (Status 5 Codes.checkCondition Codes.resetOccurred) ∷ Accepted 1 ∷ [])
+
+-- path 2's task runs on unit 0; path 1's bad command holds the queue; the task goes on, and its finish with 02h leaves
+-- the first owner
+unfoldable pub running : Table
+running = started (accepted quiet 1 6 0 Simple End) 0
+
+abbrev pub bad : Outcome
+bad = messageOf running (command 1 0 3 0 linkSet) 64
+
+abbrev pub ends : Outcome
+ends = finishOf (bad .table) 1 Codes.checkCondition Codes.noSense 0 64
+
+abbrev pub held : List unit.Unit
+held = record { aca = Owned 0 } ∷ replicate 7 noUnit
+
+abbrev pub RunsOn : Type 0
+RunsOn =
+    (map (λ (o : Outcome). o .answer) (bad ∷ ends ∷ []) ≡ Reply (Status 5 Codes.checkCondition Codes.invalidInBlock) ∷ Reply (Status 6 Codes.checkCondition Codes.noSense) ∷ [])
+    × (map (λ (o : Outcome). o .table .units) (bad ∷ ends ∷ []) ≡ held ∷ held ∷ [])
 
 -- ---- confirmed status
 
@@ -243,7 +387,7 @@ owned = record {
 }
 
 unfoldable pub shared : Table
-shared = finished (started (accepted (accepted (accepted owned 0 5 0 Simple End) 1 5 0 Simple Confirm) 1 6 1 Aca End) 1) 1 false 16
+shared = finished (started (accepted (accepted (accepted owned 0 5 0 Simple End) 1 5 0 Simple Confirm) 1 6 1 kind.Aca End) 1) 1 false 16
 
 -- an order of path 2: S3P CODE, then LUN or TAG 2
 abbrev pub order : ℕ → List ℕ → List ℕ

@@ -16,6 +16,9 @@ enum-known-r-2 c = search needs
 enum-known-r-3 : tie.Need-enum-known-r-3
 enum-known-r-3 c = search needs
 
+report-change-requires : tie.Need-report-change-requires
+report-change-requires c κs = search needs
+
 enum-known-r-4 : tie.Need-enum-known-r-4
 enum-known-r-4 c = search needs
 
@@ -51,6 +54,7 @@ rule-spec =
     refuse-requires
     enum-known-r-2
     enum-known-r-3
+    report-change-requires
     enum-known-r-4
     enum-told
     kind-of-requires

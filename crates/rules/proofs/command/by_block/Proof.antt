@@ -8,8 +8,8 @@ use Rattle.rules.proofs.command.by_block.Tie as tie
 no-length-requires : tie.Need-no-length-requires
 no-length-requires c κs = search needs
 
-check-requires : tie.Need-check-requires
-check-requires c κs = search needs
+hold-requires : tie.Need-hold-requires
+hold-requires c κs = search needs
 
 returns : tie.Need-returns
 unfolding blockRules
@@ -18,8 +18,8 @@ returns c = search first-cases depth 20
 is-linked-requires : tie.Need-is-linked-requires
 is-linked-requires c κs = search needs
 
-check-requires-2 : tie.Need-check-requires-2
-check-requires-2 c κs = search needs
+hold-requires-2 : tie.Need-hold-requires-2
+hold-requires-2 c κs = search needs
 
 returns-2 : tie.Need-returns-2
 unfolding blockRules
@@ -34,9 +34,9 @@ by-block-spec =
     tie.close
     (tie.spec
     no-length-requires
-    check-requires
+    hold-requires
     returns
     is-linked-requires
-    check-requires-2
+    hold-requires-2
     returns-2
     returns-3)

@@ -5,8 +5,8 @@ use Rattle.rules.proofs.Cases.{first-cases}
 use Rattle.rules.proofs.command.by_unit.Statement.{statement}
 use Rattle.rules.proofs.command.by_unit.Tie as tie
 
-check-requires : tie.Need-check-requires
-check-requires c κs = search needs
+report-requires : tie.Need-report-requires
+report-requires c κs = search needs
 
 returns : tie.Need-returns
 unfolding unitRules
@@ -15,8 +15,8 @@ returns c = search first-cases depth 20
 kept-out-by-aca-requires : tie.Need-kept-out-by-aca-requires
 kept-out-by-aca-requires c κs = search needs
 
-report-requires : tie.Need-report-requires
-report-requires c κs = search needs
+report-requires-2 : tie.Need-report-requires-2
+report-requires-2 c κs = search needs
 
 returns-2 : tie.Need-returns-2
 unfolding unitRules
@@ -25,8 +25,8 @@ returns-2 c = search first-cases depth 20
 aca-kind-without-aca-requires : tie.Need-aca-kind-without-aca-requires
 aca-kind-without-aca-requires c κs = search needs
 
-check-requires-2 : tie.Need-check-requires-2
-check-requires-2 c κs = search needs
+hold-requires : tie.Need-hold-requires
+hold-requires c κs = search needs
 
 returns-3 : tie.Need-returns-3
 unfolding unitRules
@@ -35,8 +35,8 @@ returns-3 c = search first-cases depth 20
 reset-to-report-requires : tie.Need-reset-to-report-requires
 reset-to-report-requires c κs = search needs
 
-check-requires-3 : tie.Need-check-requires-3
-check-requires-3 c κs = search needs
+tell-attention-requires : tie.Need-tell-attention-requires
+tell-attention-requires c κs = search needs
 
 returns-4 : tie.Need-returns-4
 unfolding unitRules
@@ -45,8 +45,8 @@ returns-4 c = search first-cases depth 20
 cleared-to-report-requires : tie.Need-cleared-to-report-requires
 cleared-to-report-requires c κs = search needs
 
-check-requires-4 : tie.Need-check-requires-4
-check-requires-4 c κs = search needs
+tell-attention-requires-2 : tie.Need-tell-attention-requires-2
+tell-attention-requires-2 c κs = search needs
 
 returns-5 : tie.Need-returns-5
 unfolding unitRules
@@ -63,19 +63,19 @@ pub by-unit-spec : {M : Type 1} → statement M
 by-unit-spec =
     tie.close
     (tie.spec
-    check-requires
+    report-requires
     returns
     kept-out-by-aca-requires
-    report-requires
+    report-requires-2
     returns-2
     aca-kind-without-aca-requires
-    check-requires-2
+    hold-requires
     returns-3
     reset-to-report-requires
-    check-requires-3
+    tell-attention-requires
     returns-4
     cleared-to-report-requires
-    check-requires-4
+    tell-attention-requires-2
     returns-5
     by-block-requires
     returns-6)
