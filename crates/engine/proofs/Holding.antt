@@ -111,7 +111,7 @@ module _ (t : Table) (g : Good t) (p tag lun : ℕ) (flags : Flags) (r : Rule) w
       record {
         sender = λ _. claimed-aca x k refl (acaAt (t .units) lun) refl;
         its-own = λ _. own-aca x k refl;
-        elsewhere = claimed-elsewhere (t .units) (g .shaped .units) lun p;
+        elsewhere = claimed-elsewhere (t .units) lun p;
         no-other = λ h. absurd (never (sym (k .holds)) h);
         records = λ _. (refl, refl);
         rule-8 = λ _ n. (sym (k .holds), attention-gone t g p l sender (k .takes-8 ∙ eq-eqb _ _ n));

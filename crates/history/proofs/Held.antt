@@ -35,7 +35,6 @@ use Rattle.sound.specs.Promises.{Good}
 use Rattle.rules.specs.Facts.{factsOf, lookupOf}
 use Rattle.rules.specs.Rules.{deciding}
 use Rattle.rules.specs.Management.{endsOf, unitOf, tagOf, orderCode, orderChange}
-use Rattle.rules.specs.declared.facts.Facts.{Facts}
 use Rattle.rules.specs.declared.change.Change.{Change}
 use Rattle.rules.specs.declared.change.Change.the-variants as change
 use Rattle.rules.specs.declared.change.SenderChange.the-variants.{ClearMark}
@@ -122,6 +121,62 @@ asks p unit q (Command lun flags) = false
 asks p unit q (Manage o) = orderReleases p unit q o
 asks p unit q (Confirm offset complete) = false
 
+-- ---- what takes an ACA away, by what was asked
+
+module _ (t : Table) (g : Good t) (p unit : ℕ) where
+  abbrev doneBy : List ℕ → ℕ → Order → Bool
+  doneBy m q o = eqb (orderCode (factsOf t q (tagOf o) (unitOf o)) m o .0) (Codes.done .0)
+
+  -- an order is answered 00h where its code is that
+  order-said : (m : List ℕ) (q tag : ℕ) (o : Order) → (orderReleases p unit q o && isDone (replyOf (planAt t m q tag (Manage o) .answer))) ≡ (orderReleases p unit q o && doneBy m q o)
+  unfolding planAt lookupOf
+  order-said m q tag o =
+      ap (λ (a : Answer). orderReleases p unit q o && isDone (replyOf a)) (order-answer (factsOf t q (tagOf o) (unitOf o)) (othersOn t (unitOf o) q) q tag m o)
+
+  -- the sender's place in the table is that in the list
+  module _ (ids : List ℕ) (names : Lists ids t) where
+    releases-so : (m buf : List ℕ) (path tag : ℕ) (w : Request) → askedOf (readOf m) ≡ By path tag w → pathOf t path < 8
+        → (a : Answer) → releases ids p unit (Message m buf) a ≡ (asks p unit (pathOf t path) w && isDone (replyOf a))
+    releases-so m buf path tag w e l a = ap (λ (b : Bool). b && isDone (replyOf a))
+        (ap (askReleases ids p unit) e ∙ by-request w ∙ ap (λ (q : ℕ). asks p unit q w) (place ids t g (names .count) (names .each) path l))
+      where
+        by-request : (w : Request) → askReleases ids p unit (By path tag w) ≡ asks p unit (placeIn ids path) w
+        by-request (Command lun flags) = refl
+        by-request (Manage o) = refl
+        by-request (Confirm offset complete) = refl
+
+  -- an order that takes the ACA away, and is carried out
+  order-clear : (others q : ℕ) (o : Order) → orderReleases p unit q o ≡ true → acaAt (unitsAfter (t .units) (orderChange others o)) unit ≡ Clear
+  order-clear others q (AbortTask tag2) h = absurd (never h refl)
+  order-clear others q (AbortTaskSet lun) h = absurd (never h refl)
+  order-clear others q (ClearTaskSet lun) h = absurd (never h refl)
+  order-clear others q (ClearAca lun) h = let k : lun ≡ unit = eqb-true lun unit (both (eqb lun unit) _ h .0) in rw (← k) (cleared-here (t .units) lun (g .shaped .units))
+  order-clear others q (UnitReset lun) h = let k : lun ≡ unit = eqb-true lun unit h in rw (← k) (cleared-here (t .units) lun (g .shaped .units))
+  order-clear others q TargetReset h = cleared-all (t .units) unit
+
+  plan-clear : (m : List ℕ) (q tag : ℕ) (w : Request) → (asks p unit q w && isDone (replyOf (planAt t m q tag w .answer))) ≡ true
+      → acaAt (carriedOut t (planAt t m q tag w) .units) unit ≡ Clear
+  unfolding carriedOut withRecords planAt lookupOf orderPlan
+  plan-clear m q tag (Command lun flags) h = absurd (never h refl)
+  plan-clear m q tag (Manage o) h =
+      let others : ℕ = othersOn t (unitOf o) q in
+      let so = both (orderReleases p unit q o) (doneBy m q o) (sym (order-said m q tag o) ∙ h) in
+      cond-ind (λ (pl : Plan). acaAt (carriedOut t pl .units) unit ≡ Clear) (doneBy m q o)
+      (λ _. ap (λ (l : List held.Unit). acaAt l unit) (only-units (ended-only (withParts t (orderChange others o)) (endsOf q o))) ∙ order-clear others q o (so .0))
+      (λ e. absurd (never (so .1) e))
+  plan-clear m q tag (Confirm offset complete) h = absurd (never h refl)
+
+  call-clear : (ids : List ℕ) → Lists ids t → (ev : Event) → releases ids p unit ev (engine ev t .answer) ≡ true → acaAt (engine ev t .table .units) unit ≡ Clear
+  unfolding engine
+  call-clear ids names (Message m buf) =
+      each-message (λ (o : Outcome). releases ids p unit (Message m buf) (o .answer) ≡ true → acaAt (o .table .units) unit ≡ Clear) t
+      (λ _ h. absurd (never (both (askReleases ids p unit (askedOf (readOf m))) false h .1) refl)) m
+      (λ path tag w e l h. plan-clear m (pathOf t path) tag w (sym (releases-so ids names m buf path tag w e l (planAt t m (pathOf t path) tag w .answer)) ∙ h)) (length buf)
+  call-clear ids names (Start v) = λ h. absurd (never h refl)
+  call-clear ids names (Finish arrival status sense transferred buf) = λ h. absurd (never h refl)
+  call-clear ids names TotalReset =
+      each-reset (λ (o : Outcome). saysReset (o .answer) ≡ true → acaAt (o .table .units) unit ≡ Clear) t (λ _ h. absurd (never h refl)) (λ _. reset-all t unit)
+
 -- ---- one call, on a sound table in which the unit has ACA of the path at p
 
 module _ (t : Table) (g : Good t) (p unit : ℕ) (owned : acaAt (t .units) unit ≡ Owned p) where
@@ -184,11 +239,9 @@ module _ (t : Table) (g : Good t) (p unit : ℕ) (owned : acaAt (t .units) unit 
   unfolding carriedOut withRecords planAt lookupOf orderPlan
   plan-kept m q tag (Command lun flags) free = ruled-kept (t .next) q tag lun flags (deciding (factsOf t q tag lun) flags m .gives)
   plan-kept m q tag (Manage o) free =
-      let f : Facts = factsOf t q (tagOf o) (unitOf o) in
       let others : ℕ = othersOn t (unitOf o) q in
-      let code : (orderReleases p unit q o && eqb (orderCode f m o .0) (Codes.done .0)) ≡ false = sym (ap (λ (a : Answer). orderReleases p unit q o && isDone (replyOf a)) (order-answer f others q tag m o)) ∙ free in
-      cond-ind (λ (pl : Plan). Kept (carriedOut t pl)) (eqb (orderCode f m o .0) (Codes.done .0))
-      (λ e. ended-kept (orderChange others o) (endsOf q o) (order-owned m q o (first-false _ _ code e) (eqb-true _ _ e))) (λ _. same)
+      cond-ind (λ (pl : Plan). Kept (carriedOut t pl)) (doneBy t g p unit m q o)
+      (λ e. ended-kept (orderChange others o) (endsOf q o) (order-owned m q o (first-false _ _ (sym (order-said t g p unit m q tag o) ∙ free) e) (eqb-true _ _ e))) (λ _. same)
   plan-kept m q tag (Confirm offset complete) free =
       let s : Selection = named q tag in
       each-confirm (λ (pl : Plan). Kept (carriedOut t pl)) (pickOf t s) q tag m offset complete same same (λ _ _. ended-kept change.Nothing _ owned)
@@ -271,22 +324,10 @@ module _ (t : Table) (g : Good t) (p unit : ℕ) (owned : acaAt (t .units) unit 
   -- ---- any call that does not take the ACA away
 
   module _ (ids : List ℕ) (names : Lists ids t) where
-    -- what is asked, by the sender's place in the table as by that in the list
-    asked-same : (path tag : ℕ) (w : Request) → pathOf t path < 8 → askReleases ids p unit (By path tag w) ≡ asks p unit (pathOf t path) w
-    asked-same path tag w l = by-request w ∙ ap (λ (q : ℕ). asks p unit q w) (place ids t g (names .count) (names .each) path l)
-      where
-        by-request : (w : Request) → askReleases ids p unit (By path tag w) ≡ asks p unit (placeIn ids path) w
-        by-request (Command lun flags) = refl
-        by-request (Manage o) = refl
-        by-request (Confirm offset complete) = refl
-
     message-kept : (m buf : List ℕ) → releases ids p unit (Message m buf) (messageOf t m (length buf) .answer) ≡ false → Kept (messageOf t m (length buf) .table)
     message-kept m buf =
         each-message (λ (o : Outcome). releases ids p unit (Message m buf) (o .answer) ≡ false → Kept (o .table)) t (λ _ _. same) m
-        (λ path tag w e l free.
-        plan-kept m (pathOf t path) tag w
-        (sym (ap (λ (b : Bool). b && isDone (replyOf (planAt t m (pathOf t path) tag w .answer))) (ap (askReleases ids p unit) e ∙ asked-same path tag w l)) ∙ free))
-        (length buf)
+        (λ path tag w e l free. plan-kept m (pathOf t path) tag w (sym (releases-so t g p unit ids names m buf path tag w e l (planAt t m (pathOf t path) tag w .answer)) ∙ free)) (length buf)
 
     call-kept : (ev : Event) → releases ids p unit ev (engine ev t .answer) ≡ false → Kept (engine ev t .table)
     unfolding engine
@@ -294,44 +335,6 @@ module _ (t : Table) (g : Good t) (p unit : ℕ) (owned : acaAt (t .units) unit 
     call-kept (Start v) free = start-kept v
     call-kept (Finish arrival status sense transferred buf) free = finish-kept arrival status sense transferred (length buf)
     call-kept TotalReset free = reset-kept free
-
-    -- ---- and one that does
-
-    order-clear : (others q : ℕ) (o : Order) → orderReleases p unit q o ≡ true → acaAt (unitsAfter (t .units) (orderChange others o)) unit ≡ Clear
-    order-clear others q (AbortTask tag2) h = absurd (never h refl)
-    order-clear others q (AbortTaskSet lun) h = absurd (never h refl)
-    order-clear others q (ClearTaskSet lun) h = absurd (never h refl)
-    order-clear others q (ClearAca lun) h = let k : lun ≡ unit = eqb-true lun unit (both (eqb lun unit) _ h .0) in rw (← k) (cleared-here (t .units) lun (g .shaped .units))
-    order-clear others q (UnitReset lun) h = let k : lun ≡ unit = eqb-true lun unit h in rw (← k) (cleared-here (t .units) lun (g .shaped .units))
-    order-clear others q TargetReset h = cleared-all (t .units) unit
-
-    plan-clear : (m : List ℕ) (q tag : ℕ) (w : Request) → (asks p unit q w && isDone (replyOf (planAt t m q tag w .answer))) ≡ true
-        → acaAt (carriedOut t (planAt t m q tag w) .units) unit ≡ Clear
-    unfolding carriedOut withRecords planAt lookupOf orderPlan
-    plan-clear m q tag (Command lun flags) h = absurd (never h refl)
-    plan-clear m q tag (Manage o) h =
-        let f : Facts = factsOf t q (tagOf o) (unitOf o) in
-        let others : ℕ = othersOn t (unitOf o) q in
-        let code : (orderReleases p unit q o && eqb (orderCode f m o .0) (Codes.done .0)) ≡ true = sym (ap (λ (a : Answer). orderReleases p unit q o && isDone (replyOf a)) (order-answer f others q tag m o)) ∙ h in
-        let both-so = both (orderReleases p unit q o) (eqb (orderCode f m o .0) (Codes.done .0)) code in
-        cond-ind (λ (pl : Plan). acaAt (carriedOut t pl .units) unit ≡ Clear) (eqb (orderCode f m o .0) (Codes.done .0))
-        (λ _. ap (λ (l : List held.Unit). acaAt l unit) (only-units (ended-only (withParts t (orderChange others o)) (endsOf q o))) ∙ order-clear others q o (both-so .0))
-        (λ no-code. absurd (never (both-so .1) no-code))
-    plan-clear m q tag (Confirm offset complete) h = absurd (never h refl)
-
-    call-clear : (ev : Event) → releases ids p unit ev (engine ev t .answer) ≡ true → acaAt (engine ev t .table .units) unit ≡ Clear
-    unfolding engine
-    call-clear (Message m buf) =
-        each-message (λ (o : Outcome). releases ids p unit (Message m buf) (o .answer) ≡ true → acaAt (o .table .units) unit ≡ Clear) t
-        (λ _ h. absurd (never (both (askReleases ids p unit (askedOf (readOf m))) false h .1) refl)) m
-        (λ path tag w e l h.
-        plan-clear m (pathOf t path) tag w
-        (sym (ap (λ (b : Bool). b && isDone (replyOf (planAt t m (pathOf t path) tag w .answer))) (ap (askReleases ids p unit) e ∙ asked-same path tag w l)) ∙ h))
-        (length buf)
-    call-clear (Start v) = λ h. absurd (never h refl)
-    call-clear (Finish arrival status sense transferred buf) = λ h. absurd (never h refl)
-    call-clear TotalReset =
-        each-reset (λ (o : Outcome). saysReset (o .answer) ≡ true → acaAt (o .table .units) unit ≡ Clear) t (λ _ h. absurd (never h refl)) (λ _. reset-all t unit)
 
 -- ---- any calls
 
@@ -350,15 +353,15 @@ good-after TotalReset t g = reset-keeps t g
 
 module _ (ids : List ℕ) (p unit : ℕ) where
   -- call k of a chain, by the first call and the rest
-  starts-of : (t : Table) (c : Call) (cs : List Call) → Good t → Lists ids t → acaAt (t .units) unit ≡ Owned p → Engine (c .event) t (c .outcome) (c .left) → StaysHeld (c .outcome .table) cs p unit
+  starts-of : (t : Table) (c : Call) (cs : List Call) → Good t → acaAt (t .units) unit ≡ Owned p → Engine (c .event) t (c .outcome) (c .left) → StaysHeld (c .outcome .table) cs p unit
       → (k : ℕ) (x : Call) (offset arrival : ℕ) → nth (c ∷ cs) k ≡ some x → x .event ≡ Start unit → x .outcome .answer ≡ answer.Started offset arrival
       → (i : ℕ) × (a : Task) × AcaTask (given t (c ∷ cs) k) p unit i a × (a .arrival ≡ arrival)
   unfolding given nth engine
-  starts-of t c cs g names owned made rest zero x offset arrival e s h =
+  starts-of t c cs g owned made rest zero x offset arrival e s h =
       let same : c ≡ x = same-element refl e in
       let o : x .outcome ≡ engine (x .event) t = rw same at (as-drive (c .event) t (c .outcome) (c .left) made) in
       start-takes t g p unit owned offset arrival (x .outcome) (o ∙ ap (λ (ev : Event). engine ev t) s) h
-  starts-of t c cs g names owned made rest (suc k) x offset arrival e s h = rest .starts k x offset arrival e s h
+  starts-of t c cs g owned made rest (suc k) x offset arrival e s h = rest .starts k x offset arrival e s h
 
   stays-held : (t : Table) (cs : List Call) → Good t → Lists ids t → Chained Engine t cs → acaAt (t .units) unit ≡ Owned p → NoneReleases ids p unit cs → StaysHeld t cs p unit
   unfolding lastTable given nth
@@ -376,7 +379,7 @@ module _ (ids : List ℕ) (p unit : ℕ) where
       let rest = stays-held u cs (rw table (good-after (c .event) t g)) later (chain .1) (kept .0) (λ k. free (suc k)) in
       record {
         held = rest .held;
-        starts = starts-of t c cs g names owned (chain .0) rest;
+        starts = starts-of t c cs g owned (chain .0) rest;
         not-executed = λ i a l e there r other. kept .1 i a l (rest .not-executed i a l e there r other) there r other;
       }
 
@@ -384,9 +387,9 @@ pub queue-is-held : QueueIsHeld Engine
 queue-is-held ids t cs p unit g names chain owned free = stays-held ids p unit t cs g names chain owned free
 
 pub releases-it : ReleasesIt Engine
-releases-it ids ev t o left p unit names x owned h =
+releases-it ids ev t o left p unit names x h =
     let e : o ≡ engine ev t = as-drive ev t o left (x .call) in
-    rw e (call-clear t (x .good) p unit owned ids names ev (sym (ap (λ (q : Outcome). releases ids p unit ev (q .answer)) e) ∙ h))
+    rw e (call-clear t (x .good) p unit ids names ev (sym (ap (λ (q : Outcome). releases ids p unit ev (q .answer)) e) ∙ h))
 
 -- ---- after a command that holds the queue
 

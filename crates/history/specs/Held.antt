@@ -81,10 +81,10 @@ releases ids p unit TotalReset a = saysReset a
 abbrev pub NoneReleases : List ℕ → ℕ → ℕ → List Call → Type 0
 NoneReleases ids p unit cs = (k : ℕ) (c : Call) → nth cs k ≡ some c → releases ids p unit (c .event) (c .outcome .answer) ≡ false
 
--- such an event does take the ACA away
+-- such an event does take the ACA away: the unit has none after it
 abbrev pub ReleasesIt : Contract → Type 0
 ReleasesIt C = (ids : List ℕ) (ev : Event) (t : Table) (o : Outcome) (left : List ℕ) (p unit : ℕ) → Lists ids t → Made C ev t o left
-    → acaAt (t .units) unit ≡ Owned p → releases ids p unit ev (o .answer) ≡ true → acaAt (o .table .units) unit ≡ Clear
+    → releases ids p unit ev (o .answer) ≡ true → acaAt (o .table .units) unit ≡ Clear
 
 -- ---- until then: the unit has ACA, owned by the path at p, when the calls begin, and none of them takes it away
 
@@ -131,7 +131,6 @@ BadCommandHolds = (ids : List ℕ) (t : Table) (m buf : List ℕ) (o : Outcome) 
 -- ---- the same on the trace alone, with no table looked at
 
 -- call c is a command of the path at p that is answered STATUS 02h, on a unit of setup's map of attached units
-
 pub record BadOnTrace (ids : List ℕ) (attached : ℕ) (c : Call) (p lun : ℕ) : Type 0 where
   pub m : List ℕ
   pub buf : List ℕ
@@ -167,7 +166,6 @@ HeldOnTrace = (ids : List ℕ) (attached first : ℕ) (o : Outcome) (cs : List C
 -- ---- the premises can be met
 
 -- two hosts and unit 0, as in examples/held: host 1's write waits, and its next one is bad, since LINK is set
-
 abbrev pub writeAt : ℕ → List ℕ
 writeAt block = 0x0a ∷ 0 ∷ 0 ∷ block ∷ 1 ∷ 0 ∷ []
 

@@ -25,6 +25,10 @@ module _ (units : List unit.Unit) (lun : ℕ) (a : unit.Unit) where
   at-other u n =
       cond-ind (λ (l : List unit.Unit). acaAt l u ≡ acaAt units u) (ltb lun 8) (λ _. ap (λ (b : unit.Unit). b .aca) (getD-set-other units lun u a noUnit n)) (λ _. refl)
 
+pub claimed-elsewhere : (units : List unit.Unit) (lun p u : ℕ) → (u ≡ lun → ⊥) → acaAt (claimedIn units lun p) u ≡ acaAt units u
+unfolding claimedIn
+claimed-elsewhere units lun p u n = at-other units lun (claimedUnit p (getD units lun noUnit)) u n
+
 module _ (units : List unit.Unit) (whole : length units ≡ 8) (lun p : ℕ) where
   claimed-here : lun < 8 → acaAt (claimedIn units lun p) lun ≡ claimedUnit p (getD units lun noUnit) .aca
   unfolding claimedIn
@@ -33,10 +37,6 @@ module _ (units : List unit.Unit) (whole : length units ≡ 8) (lun p : ℕ) whe
 
   pub claimed-free : lun < 8 → acaAt units lun ≡ Clear → acaAt (claimedIn units lun p) lun ≡ Owned p
   claimed-free l e = claimed-here l ∙ rw e
-
-  pub claimed-elsewhere : (u : ℕ) → (u ≡ lun → ⊥) → acaAt (claimedIn units lun p) u ≡ acaAt units u
-  unfolding claimedIn
-  claimed-elsewhere u n = at-other units lun (claimedUnit p (getD units lun noUnit)) u n
 
   -- who owns the ACA of a unit owns it still
   pub claimed-owned : (u q : ℕ) → acaAt units u ≡ Owned q → acaAt (claimedIn units lun p) u ≡ Owned q

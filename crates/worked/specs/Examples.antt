@@ -162,21 +162,25 @@ test tag = 0x83 ∷ 0x10 ∷ 0 ∷ tag ∷ 0 ∷ 0 ∷ 0 ∷ 1 ∷ 0 ∷ 0 ∷ 3
 abbrev pub worked1 : Outcome
 worked1 = messageOf (setupOf (1 ∷ []) 0x01 1 .table) (test 5) 64
 
-abbrev pub worked2 : Outcome
-worked2 = messageOf (worked1 .table) (test 6) 64
+-- on a table: the second command, a start, a finish and a late finish
+abbrev pub second : Table → Outcome
+second t = messageOf t (test 6) 64
 
-abbrev pub worked3 : Outcome
-worked3 = startOf (worked2 .table) 0
+abbrev pub third : Table → Outcome
+third t = startOf (second t .table) 0
 
-abbrev pub worked4 : Outcome
-worked4 = finishOf (worked3 .table) 1 (Codes.statusByte 0x00) Codes.noSense 0 64
+abbrev pub fourth : Table → Outcome
+fourth t = finishOf (third t .table) 1 (Codes.statusByte 0x00) Codes.noSense 0 64
 
-abbrev pub worked5 : Outcome
-worked5 = finishOf (worked4 .table) 1 (Codes.statusByte 0x00) Codes.noSense 0 64
+abbrev pub fifth : Table → Outcome
+fifth t = finishOf (fourth t .table) 1 (Codes.statusByte 0x00) Codes.noSense 0 64
+
+abbrev pub answersFrom : Outcome → List Answer
+answersFrom o = map (λ (x : Outcome). x .answer) (let t = o .table in o ∷ second t ∷ third t ∷ fourth t ∷ fifth t ∷ [])
 
 abbrev pub WorkedCalls : Type 0
 WorkedCalls =
-    map (λ (o : Outcome). o .answer) (worked1 ∷ worked2 ∷ worked3 ∷ worked4 ∷ worked5 ∷ [])
+    answersFrom worked1
     ≡ Reply (Status 5 (Codes.statusByte 0x02) (Codes.sense 0x06 0x29 0x00)) ∷ Reply (Status 6 (Codes.statusByte 0x30) Codes.noSense) ∷ Refused (Codes.refusal 8) ∷ Refused (Codes.refusal 9)
     ∷ Refused (Codes.refusal 9) ∷ []
 
@@ -184,21 +188,9 @@ WorkedCalls =
 abbrev pub clearing : Outcome
 clearing = messageOf (worked1 .table) (0x83 ∷ 0x34 ∷ 0 ∷ 7 ∷ 0 ∷ 0 ∷ 0 ∷ 1 ∷ 0 ∷ []) 64
 
-abbrev pub cleared2 : Outcome
-cleared2 = messageOf (clearing .table) (test 6) 64
-
-abbrev pub cleared3 : Outcome
-cleared3 = startOf (cleared2 .table) 0
-
-abbrev pub cleared4 : Outcome
-cleared4 = finishOf (cleared3 .table) 1 (Codes.statusByte 0x00) Codes.noSense 0 64
-
-abbrev pub cleared5 : Outcome
-cleared5 = finishOf (cleared4 .table) 1 (Codes.statusByte 0x00) Codes.noSense 0 64
-
 abbrev pub ClearedCalls : Type 0
 ClearedCalls =
-    map (λ (o : Outcome). o .answer) (clearing ∷ cleared2 ∷ cleared3 ∷ cleared4 ∷ cleared5 ∷ [])
+    answersFrom clearing
     ≡ Reply (Response 7 (Codes.returnCode 0x00)) ∷ Accepted 1 ∷ Started 0 1 ∷ Reply (Status 6 (Codes.statusByte 0x00) Codes.noSense) ∷ Refused (Codes.refusal 9) ∷ []
 
 -- ---- which answers hold the queue
