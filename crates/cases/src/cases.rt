@@ -1,8 +1,8 @@
 // The letters: what each case asks of the readers and the writer, and what they say.
 use crate::print::{decimal, flag, hex, hex_long, hex_word, pairs, pairs_filled, text, word_if};
 use reply::{Found, Reply, Written};
-use wire::block::{command_block, cut_short, is_linked, needed, no_length};
-use wire::codes::{Refusal, ReturnCode, Sense, StatusByte, number_of};
+use wire::block::{command_block, cut_short, is_linked, no_length};
+use wire::codes::{Refusal, ReturnCode, Sense, StatusByte};
 use wire::fields::{byte_at, word};
 use wire::message::{Flags, Message, reserved_set};
 
@@ -25,19 +25,10 @@ pub(crate) fn bad_case() {
     text(b"bad case");
 }
 
-// The number of a refusal, and beside number 1 the byte count that was needed.
-fn numbered(r: Refusal) {
-    decimal(number_of(r) as usize);
-    if let Refusal::TooShort(count) = r {
-        text(b" ");
-        decimal(count as usize);
-    }
-}
-
 // A refusal by its number.
 pub(crate) fn refused(r: Refusal) {
     text(b"refused ");
-    numbered(r);
+    decimal(r.0 as usize);
 }
 
 // A message's name, and the fields that every message has.
@@ -129,10 +120,7 @@ fn message(m: &[u8]) {
 fn block(m: &[u8]) {
     text(b"block");
     pairs(command_block(m));
-    if cut_short(m) {
-        text(b" cut ");
-        decimal(needed(m) as usize);
-    }
+    word_if(b" cut", cut_short(m));
     word_if(b" none", no_length(m));
     word_if(b" linked", is_linked(m));
 }
@@ -244,11 +232,11 @@ fn read_reply(b: &[u8]) {
     }
 }
 
-// What the reader says of a damaged reply: the refusal by its number alone, or the reply.
+// What the reader says of a damaged reply: the number of the refusal alone, or the reply.
 fn verdict(b: &[u8]) {
     match reply::read(b) {
         Found::Reply(r) => reply_fields(r),
-        Found::Refused(why) => numbered(why),
+        Found::Refused(why) => decimal(why.0 as usize),
     }
 }
 

@@ -1,5 +1,5 @@
-// Runs cases, bytes and calls: echoes each line of standard input, then of the files `confirmed`, `ended`, `held` and
-// `short`, and answers it where it is a case. A table is kept from line to line of each.
+// Runs cases, bytes and calls: echoes each line of standard input, then of the files `confirmed`, `ended` and `held`, and
+// answers it where it is a case. A table is kept from line to line of each.
 mod cases;
 mod engine_cases;
 mod print;
@@ -156,5 +156,4 @@ fn main() {
     run_named(b"confirmed");
     run_named(b"ended");
     run_named(b"held");
-    run_named(b"short");
 }

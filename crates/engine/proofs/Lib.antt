@@ -7,7 +7,6 @@ pub mod Confirming
 pub mod Holding
 pub mod Abort
 pub mod Past
-pub mod Lengths
 pub mod Outcomes
 pub mod Endings
 pub mod Computing

@@ -48,7 +48,7 @@ decided_same : (m rest : List ℕ) (f : Facts) (flags : Flags) → cut_short m �
 unfolding given command_rules room_rules field_rules unit_rules block_rules passes_attention reset_to_report cleared_to_report
 decided_same m rest f flags w s =
     rw (told (command_rules f flags (m ++ rest)) (accepts (m ++ rest)), told (command_rules f flags m) (accepts m))
-    (rw (past.cut_short_past m rest w, w, s, past.first_byte m rest w, past.no_length m rest w, past.is_linked m rest w))
+    (rw (past.cut_short_past m rest w ∙ sym w, s, past.first_byte m rest w, past.no_length m rest w, past.is_linked m rest w))
 
 module _ (t : Table) (m rest : List ℕ) where
   abbrev Same : Asked → Type 0
@@ -72,7 +72,7 @@ module _ (t : Table) (m rest : List ℕ) where
   unfolding message_of heard_of answered_to
   message_same n h =
       let w : s3p_code (read_of m) ≡ Codes.scsi_command → cut_short m ≡ false = λ e. h.block (sym (read_by_code m _ refl h.fields) ∙ e) in
-      rw (past.read m rest (λ k. h.fields (Codes.too_short k)))
+      rw (past.read m rest (h.fields _))
       (cond_ind Same (not (sound_of t)) (λ _. refl)
       (λ _. cond_ind Same (ltb n Codes.reply_room) (λ _. refl) (λ _. answered_same (read_of m) w (past.reserved_set_past m rest h))))
 

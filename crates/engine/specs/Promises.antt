@@ -2,15 +2,13 @@
 -- first lines name; Unique.antt has that outcomes are one.
 use Rattle.std.specs.Prelude.{ℕ, ◌<◌, ◌≤◌, ◌^◌, ◌≡◌, Bool, true, false, List, ◌++◌, length}
 use Rattle.std.proofs.Math.Option.{none, some}
-use Rattle.wire.specs.Codes.{too_short, reply_room}
+use Rattle.wire.specs.Codes.{reply_room}
 use Rattle.wire.specs.Messages.{read_of}
 use Rattle.wire.specs.Block.{block_length, cut_short, no_block}
 use Rattle.wire.specs.Promises.{Whole}
-use Rattle.wire.specs.Lengths.{read_counts, block_counts, first_over, first_missed, NeedsBytes}
 use Rattle.wire.specs.declared.codes.Refusal.{Refusal}
 use Rattle.wire.specs.declared.codes.StatusByte.{StatusByte}
 use Rattle.wire.specs.declared.codes.Sense.{Sense}
-use Rattle.wire.specs.declared.message.Flags.{Flags}
 use Rattle.wire.specs.declared.message.Message.TheVariants.{AbortTask}
 use Rattle.reply.specs.Replies.{writable_of, bytes_of}
 use Rattle.reply.specs.Calls.{placed}
@@ -22,13 +20,10 @@ use Rattle.task.specs.declared.scan.Pick.{Pick}
 use Rattle.table.specs.Tables.{zero_table, path_of, path_at, unit_at, started}
 use Rattle.table.specs.Setup.{bad_list}
 use Rattle.table.specs.View.{at}
-use Rattle.sound.specs.Sound.{sound_of}
 use Rattle.sound.specs.Promises.{Good}
 use Rattle.table.specs.declared.Table.{Table}
-use Rattle.rules.specs.Facts.{facts_of}
-use Rattle.rules.specs.Promises.{rule_one}
-use Rattle.plan.specs.Plans.{asked_of, reply_of, answer_count}
-use Rattle.plan.specs.declared.Request.TheVariants.{Command, Confirm}
+use Rattle.plan.specs.Plans.{asked_of, reply_of}
+use Rattle.plan.specs.declared.Request.TheVariants.{Confirm}
 use Rattle.plan.specs.declared.Asked.TheVariants.{By}
 use Rattle.plan.specs.declared.Answer.{Answer}
 use Rattle.plan.specs.declared.Answer.TheVariants as answer
@@ -146,30 +141,6 @@ pub record ConfirmsItsOwn : Type 0 where
 pub record PastIsNotRead : Type 0 where
   pub outcome : (t : Table) (m rest : List ℕ) (n : ℕ) → Whole m → message_of t (m ++ rest) n ≡ message_of t m n
   pub command_block : (m rest : List ℕ) (a : Answer) → cut_short m ≡ false → handed_over (m ++ rest) a ≡ handed_over m a
-
--- ---- the byte count beside refusal 1 (page 02, M-106)
-
--- a message that is refused by 1: the count is that of the check that fails first, in page 01's order, and with the same
--- table and buffer the message needs so many bytes. It is so refused where 13 and 5 do not apply and the reader misses a
--- count, or rule 2 does behind 3 and rule 1. No other call names a count
-pub record NamesCountNeeded : Type 0 where
-  pub first : (t : Table) (m buf : List ℕ) (o : Outcome) (left : List ℕ) (n : ℕ)
-      → MessageContract t m buf o left → o.answer ≡ answer.Refused (too_short n) → first_missed m ≡ some n
-  pub needs : (t : Table) (m buf : List ℕ) (o : Outcome) (left : List ℕ) (n : ℕ)
-      → MessageContract t m buf o left → o.answer ≡ answer.Refused (too_short n)
-      → NeedsBytes (λ b. answer_count (message_of t b (length buf)).answer) m n
-  pub by_reader : (t : Table) (m buf : List ℕ) (o : Outcome) (left : List ℕ) (n : ℕ)
-      → MessageContract t m buf o left → sound_of t ≡ true → reply_room ≤ length buf
-      → first_over (length m) (read_counts m) ≡ some n → o.answer ≡ answer.Refused (too_short n)
-  pub by_rule_2 : (t : Table) (m buf : List ℕ) (o : Outcome) (left : List ℕ) (path tag lun n : ℕ) (flags : Flags)
-      → MessageContract t m buf o left → sound_of t ≡ true → reply_room ≤ length buf
-      → asked_of (read_of m) ≡ By path tag (Command lun flags) → path_of t path < 8 → rule_one (facts_of t (path_of t path) tag lun) flags ≡ false
-      → first_over (length m) (block_counts m) ≡ some n → o.answer ≡ answer.Refused (too_short n)
-  pub start : (t : Table) (unit : ℕ) (o : Outcome) → StartContract t unit o → answer_count o.answer ≡ none
-  pub finish : (t : Table) (arrival : ℕ) (status : StatusByte) (s : Sense) (transferred : ℕ) (buf : List ℕ) (o : Outcome) (left : List ℕ)
-      → FinishContract t arrival status s transferred buf o left → answer_count o.answer ≡ none
-  pub total_reset : (t : Table) (o : Outcome) → TotalResetContract t o → answer_count o.answer ≡ none
-  pub setup : (ids : List ℕ) (attached first : ℕ) (o : Outcome) → SetupContract ids attached first o → answer_count o.answer ≡ none
 
 -- ---- every call keeps a table sound, and setup's is
 

@@ -34,10 +34,10 @@ fn heard(sound: bool, room: usize, m: &[u8]) -> Asked
     ensures { result ≡ heard_of sound room m.now }
 {
     if !sound {
-        return Asked::Unread(Refusal::NotSound);
+        return Asked::Unread(Refusal::NOT_SOUND);
     }
     if room < REPLY_ROOM {
-        return Asked::Unread(Refusal::SmallBuffer);
+        return Asked::Unread(Refusal::SMALL_BUFFER);
     }
     plan::ask(wire::message::read(m))
 }
@@ -73,7 +73,7 @@ fn plan_for(s: Lookup, next: u64, p: u8, tag: u16, m: &[u8], w: Request) -> Plan
     ensures { result ≡ cond (ltb p 8) (plan_of s next p tag m.now w) (refusing Codes.unknown_path) }
 {
     if p as usize >= PATHS {
-        return plan::refuse(Refusal::UnknownPath);
+        return plan::refuse(Refusal::UNKNOWN_PATH);
     }
     plan::find_plan(s, next, p, tag, m, w)
 }
@@ -198,16 +198,16 @@ fn choose(checked: bool, attached: bool, busy: bool, p: Pick) -> Verdict
     ensures { result ≡ chosen_by checked attached busy p }
 {
     if !checked {
-        return reject(Refusal::NotSound);
+        return reject(Refusal::NOT_SOUND);
     }
     if !attached {
-        return reject(Refusal::NotAttached);
+        return reject(Refusal::NOT_ATTACHED);
     }
     if busy {
-        return reject(Refusal::UnitBusy);
+        return reject(Refusal::UNIT_BUSY);
     }
     if !p.found {
-        return reject(Refusal::NothingToStart);
+        return reject(Refusal::NOTHING_TO_START);
     }
     let a = p.task;
     Verdict {
@@ -280,16 +280,16 @@ fn judge(checked: bool, n: usize, status: StatusByte, sense: Sense, p: Pick, id:
     ensures { result ≡ judged_by checked n status sense p id }
 {
     if !checked {
-        return reject(Refusal::NotSound);
+        return reject(Refusal::NOT_SOUND);
     }
     if n < REPLY_ROOM {
-        return reject(Refusal::SmallBuffer);
+        return reject(Refusal::SMALL_BUFFER);
     }
     if !may_finish(status, sense) {
-        return reject(Refusal::BadStatus);
+        return reject(Refusal::BAD_STATUS);
     }
     if !p.found {
-        return reject(Refusal::NotRunning);
+        return reject(Refusal::NOT_RUNNING);
     }
     let a = p.task;
     Verdict {
@@ -349,7 +349,7 @@ pub fn finish(
 pub fn total_reset(mut t: Table) -> Outcome
     ensures { TotalResetContract t result }
 {
-    let mut answer = Answer::Refused(Refusal::NotSound);
+    let mut answer = Answer::Refused(Refusal::NOT_SOUND);
     let before = t.live;
     let mut stops: u8 = 0;
     if is_sound(t) {
@@ -379,7 +379,7 @@ pub fn setup(ids: &[u32], attached: u8, first: u64) -> Outcome
     let t = Table::new(ids, attached, first);
     let mut answer = Answer::Ready;
     if table::setup::bad_list(ids) {
-        answer = Answer::Refused(Refusal::BadPaths);
+        answer = Answer::Refused(Refusal::BAD_PATHS);
     }
     Outcome {
         table: t,

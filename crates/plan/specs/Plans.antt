@@ -105,32 +105,6 @@ reply_of (answer.Restarted n) = none
 reply_of answer.Reset = none
 reply_of (answer.Refused n) = none
 
--- ---- the refusal that an answer is, page 01's number of it, and the byte count beside that number
-
-abbrev pub refusal_of : Answer → Option Refusal
-refusal_of answer.Ready = none
-refusal_of (answer.Accepted n) = none
-refusal_of (answer.Reply r) = none
-refusal_of (answer.Started offset arrival) = none
-refusal_of (answer.Confirmed n) = none
-refusal_of (answer.Restarted n) = none
-refusal_of answer.Reset = none
-refusal_of (answer.Refused r) = some r
-
-abbrev pub number_for : Option Refusal → Option ℕ
-number_for none = none
-number_for (some r) = some (Codes.number_of r)
-
-abbrev pub count_for : Option Refusal → Option ℕ
-count_for none = none
-count_for (some r) = Codes.byte_count r
-
-abbrev pub answer_number : Answer → Option ℕ
-answer_number a = number_for (refusal_of a)
-
-abbrev pub answer_count : Answer → Option ℕ
-answer_count a = count_for (refusal_of a)
-
 -- ---- the plan
 
 abbrev pub planned : Answer → Change → RecordChange → Plan

@@ -318,7 +318,7 @@ fn plan_confirm(own: Pick, p: u8, tag: u16, m: &[u8], offset: u32, complete: boo
         return tell(Answer::Reply(Reply::Response { tag, code }));
     }
     if !is_awaited(own) {
-        return refuse(Refusal::NothingToConfirm);
+        return refuse(Refusal::NOTHING_TO_CONFIRM);
     }
     let task = own.task;
     let arrival = task.arrival;

@@ -7,7 +7,7 @@ use mathlib.Core.List.{List, [], ◌∷◌, ◌++◌}
 use lib.ListN.{length, take, drop, replicate}
 use lib.Seq.{take-length}
 use lib.Dec.{leb, ltb, eqb}
-use borrow.Author.Tests.{not_true, not-false, le-ltb, lt-ltb, ltb-true, ltb-false, eq-eqb, ne_eqb, eqb-true, eqb-false}
+use borrow.Author.Tests.{not_true, not-false, le-ltb, lt-ltb, ltb-false, eq-eqb, ne_eqb, eqb-true, eqb-false}
 use Rattle.wire.specs.Codes.{too_short, not_handled, small_buffer, not_writable, reply_room, sms_code, scsi_response, scsi_status}
 use Rattle.wire.specs.Codes.{invalid_field, check_condition, status_byte, sense}
 use Rattle.wire.specs.Fields.{byte, joined}
@@ -131,7 +131,7 @@ module _ (b : List ℕ) {tag high low code : ℕ} (t : tag ≡ joined high low) 
 
 pub ruleset status_cases = (invalid, processed)
 
-pub no_codes : (b : List ℕ) → length b < 2 → found.Refused (too_short 2) ≡ found_in b
+pub no_codes : (b : List ℕ) → length b < 2 → found.Refused too_short ≡ found_in b
 unfolding found_in
 no_codes b h = simp (lt-ltb _ _ h)
 
@@ -141,7 +141,7 @@ module _ (b : List ℕ) (h : 2 ≤ length b) where
   not_ours n = simp (le-ltb _ _ h, ne_eqb _ _ n)
 
   module _ (e : byte b 0 ≡ sms_code) where
-    pub short_response : byte b 1 ≡ scsi_response → length b < response_length → found.Refused (too_short response_length) ≡ found_in b
+    pub short_response : byte b 1 ≡ scsi_response → length b < response_length → found.Refused too_short ≡ found_in b
     unfolding found_in
     short_response k l = simp (le-ltb _ _ h, eq-eqb _ _ e, eq-eqb _ _ k, lt-ltb _ _ l)
 
@@ -150,7 +150,7 @@ module _ (b : List ℕ) (h : 2 ≤ length b) where
     whole_response k l q p = p ∙ rw q (simp (le-ltb _ _ h, eq-eqb _ _ e, eq-eqb _ _ k, le-ltb _ _ l))
 
     module _ (x : byte b 1 ≡ scsi_response → ⊥) where
-      pub short_status : byte b 1 ≡ scsi_status → length b < status_length → found.Refused (too_short status_length) ≡ found_in b
+      pub short_status : byte b 1 ≡ scsi_status → length b < status_length → found.Refused too_short ≡ found_in b
       unfolding found_in
       short_status k l = simp (le-ltb _ _ h, eq-eqb _ _ e, ne_eqb _ _ x, eq-eqb _ _ k, lt-ltb _ _ l)
 
@@ -164,24 +164,21 @@ module _ (b : List ℕ) (h : 2 ≤ length b) where
 
 -- one of the ways out, with what the tests on it found
 module _ (P : Found → Type 0) (b : List ℕ) where
-  pub each_finding : (length b < 2 → P (found.Refused (too_short 2)))
+  pub each_finding : P (found.Refused too_short)
       → (2 ≤ length b → (byte b 0 ≡ sms_code → ⊥) → P (found.Refused not_handled))
-      → (2 ≤ length b → byte b 0 ≡ sms_code → byte b 1 ≡ scsi_response → length b < response_length → P (found.Refused (too_short response_length)))
       → (2 ≤ length b → byte b 0 ≡ sms_code → byte b 1 ≡ scsi_response → response_length ≤ length b → P (fitted (as_response b) b))
-      → (2 ≤ length b → byte b 0 ≡ sms_code → (byte b 1 ≡ scsi_response → ⊥) → byte b 1 ≡ scsi_status → length b < status_length → P (found.Refused (too_short status_length)))
       → (2 ≤ length b → byte b 0 ≡ sms_code → (byte b 1 ≡ scsi_response → ⊥) → byte b 1 ≡ scsi_status → status_length ≤ length b → P (fitted (as_status b) b))
       → (2 ≤ length b → byte b 0 ≡ sms_code → (byte b 1 ≡ scsi_response → ⊥) → (byte b 1 ≡ scsi_status → ⊥) → P (found.Refused not_handled))
       → P (found_in b)
   unfolding found_in
-  each_finding two ours few response less status rest =
-      cond_ind P (ltb (length b) 2) (λ h. two (ltb-true _ _ h))
+  each_finding refused ours response status rest =
+      cond_ind P (ltb (length b) 2) (λ _. refused)
       (λ h. cond_ind P (not (eqb (byte b 0) sms_code)) (λ n. ours (ltb-false _ _ h) (eqb-false _ _ (not_true _ n)))
       (λ e. cond_ind P (eqb (byte b 1) scsi_response)
-      (λ k. cond_ind P (ltb (length b) response_length) (λ l. few (ltb-false _ _ h) (eqb-true _ _ (not-false _ e)) (eqb-true _ _ k) (ltb-true _ _ l))
+      (λ k. cond_ind P (ltb (length b) response_length) (λ _. refused)
       (λ l. response (ltb-false _ _ h) (eqb-true _ _ (not-false _ e)) (eqb-true _ _ k) (ltb-false _ _ l)))
       (λ x. cond_ind P (eqb (byte b 1) scsi_status)
-      (λ k. cond_ind P (ltb (length b) status_length)
-      (λ l. less (ltb-false _ _ h) (eqb-true _ _ (not-false _ e)) (eqb-false _ _ x) (eqb-true _ _ k) (ltb-true _ _ l))
+      (λ k. cond_ind P (ltb (length b) status_length) (λ _. refused)
       (λ l. status (ltb-false _ _ h) (eqb-true _ _ (not-false _ e)) (eqb-false _ _ x) (eqb-true _ _ k) (ltb-false _ _ l)))
       (λ k. rest (ltb-false _ _ h) (eqb-true _ _ (not-false _ e)) (eqb-false _ _ x) (eqb-false _ _ k)))))
 

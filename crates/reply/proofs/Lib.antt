@@ -3,5 +3,4 @@ mod Front
 mod Cases
 pub mod Promises
 pub mod Past
-pub mod Lengths
 pub mod Unique

@@ -52,23 +52,21 @@ module _ (b rest : List ℕ) where
     two : 2 ≤ length (b ++ rest)
     two = longer b rest 2 h
 
-    pub sms : byte (b ++ rest) 0 ≡ byte b 0
+    sms : byte (b ++ rest) 0 ≡ byte b 0
     sms = same b rest 0 (omega arith)
 
-    pub s3p : byte (b ++ rest) 1 ≡ byte b 1
+    s3p : byte (b ++ rest) 1 ≡ byte b 1
     s3p = same b rest 1 h
 
-    pub s3p_not : {n : ℕ} → (byte b 1 ≡ n → ⊥) → byte (b ++ rest) 1 ≡ n → ⊥
+    s3p_not : {n : ℕ} → (byte b 1 ≡ n → ⊥) → byte (b ++ rest) 1 ≡ n → ⊥
     s3p_not x e = x (sym s3p ∙ e)
 
-  past : ((n : ℕ) → found_in b ≡ found.Refused (too_short n) → ⊥) → found_in (b ++ rest) ≡ found_in b
+  past : (found_in b ≡ found.Refused too_short → ⊥) → found_in (b ++ rest) ≡ found_in b
   past =
       let w : List ℕ = b ++ rest in
-      each_finding (λ f. ((n : ℕ) → f ≡ found.Refused (too_short n) → ⊥) → found_in w ≡ f) b (λ _ n. absurd (n _ refl))
+      each_finding (λ f. (f ≡ found.Refused too_short → ⊥) → found_in w ≡ f) b (λ n. absurd (n refl))
       (λ h n _. sym (not_ours w (two h) (λ e. n (sym (sms h) ∙ e))))
-      (λ _ _ _ _ n. absurd (n _ refl))
       (λ h e k l _. sym (whole_response w (two h) (sms h ∙ e) (s3p h ∙ k) (longer b rest response_length l) (response_same l) (fits_response l)))
-      (λ _ _ _ _ _ n. absurd (n _ refl))
       (λ h e x k l _. sym (whole_status w (two h) (sms h ∙ e) (s3p_not h x) (s3p h ∙ k) (longer b rest status_length l) (status_same l) (fits_status l)))
       (λ h e x k _. sym (other w (two h) (sms h ∙ e) (s3p_not h x) (s3p_not h k)))
 

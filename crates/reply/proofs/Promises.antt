@@ -147,9 +147,8 @@ module _ (b : List ℕ) (r : Reply) where
 
 stands_there : (b : List ℕ) (r : Reply) → Good b r (found_in b)
 stands_there b r =
-    each_finding (Good b r) b (λ _. no b r (too_short _)) (λ _ _. no b r not_handled)
-    (λ _ _ _ _. no b r (too_short _)) (λ _ _ _ _. yes b r (as_response b)) (λ _ _ _ _ _. no b r (too_short _)) (λ _ _ _ _ _. yes b r (as_status b))
-    (λ _ _ _ _. no b r not_handled)
+    each_finding (Good b r) b (no b r too_short) (λ _ _. no b r not_handled)
+    (λ _ _ _ _. yes b r (as_response b)) (λ _ _ _ _ _. yes b r (as_status b)) (λ _ _ _ _. no b r not_handled)
 
 pub writes_what_was_read : WritesWhatWasRead
 unfolding written_of left_of

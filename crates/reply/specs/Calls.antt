@@ -1,7 +1,7 @@
 -- The reply writer and the reply reader.
 use Rattle.std.specs.Prelude.{ℕ, ◌≡◌, List, [], ◌∷◌, ◌++◌, Bool, true, false, cond, not, ◌&&◌, length, drop, ltb, eqb}
 use Rattle.wire.specs.Codes.{too_short, not_handled, small_buffer, not_writable, reply_room}
-use Rattle.wire.specs.Codes.{header_length, sms_code, scsi_response, scsi_status, return_code, invalid_field, status_byte, sense}
+use Rattle.wire.specs.Codes.{sms_code, scsi_response, scsi_status, return_code, invalid_field, status_byte, sense}
 use Rattle.wire.specs.Fields.{byte, word}
 use Rattle.reply.specs.Replies.{writable_of, bytes_of, response_length, status_length}
 use Rattle.reply.specs.declared.Reply.{Reply}
@@ -32,7 +32,7 @@ pub record Writes (r : Reply) (buf : List ℕ) (w : Written) (left : List ℕ) :
   pub answer : w ≡ written_of r buf
   pub buffer : left ≡ left_of r buf
 
--- ---- the reader: 1 if under 2 bytes, 2, 1 if under the shortest such reply, 14. With 1 goes the count that was needed
+-- ---- the reader: 1 if under 2 bytes, 2, 1 if under the shortest such reply, 14
 
 -- xs stands at the front of ys
 unfoldable pub starts_with : List ℕ → List ℕ → Bool
@@ -56,8 +56,8 @@ as_status b =
 
 unfoldable pub found_in : List ℕ → Found
 found_in b =
-    cond (ltb (length b) header_length) (found.Refused (too_short header_length))
+    cond (ltb (length b) 2) (found.Refused too_short)
     (cond (not (eqb (byte b 0) sms_code)) (found.Refused not_handled)
-    (cond (eqb (byte b 1) scsi_response) (cond (ltb (length b) response_length) (found.Refused (too_short response_length)) (fitted (as_response b) b))
-    (cond (eqb (byte b 1) scsi_status) (cond (ltb (length b) status_length) (found.Refused (too_short status_length)) (fitted (as_status b) b))
+    (cond (eqb (byte b 1) scsi_response) (cond (ltb (length b) response_length) (found.Refused too_short) (fitted (as_response b) b))
+    (cond (eqb (byte b 1) scsi_status) (cond (ltb (length b) status_length) (found.Refused too_short) (fitted (as_status b) b))
     (found.Refused not_handled))))

@@ -4,8 +4,8 @@ ghost use Rattle.reply.specs.Replies.{one_of, response_codes, plain_statuses, is
 ghost use Rattle.reply.specs.Calls.{Writes, starts_with, fitted, as_response, as_status, found_in};
 
 use wire::codes::{
-    ADDITIONAL_SENSE_LENGTH, CURRENT_ERROR, HEADER_LENGTH, REPLY_ROOM, Refusal, ReturnCode,
-    SCSI_RESPONSE, SCSI_STATUS, SMS_CODE, Sense, StatusByte,
+    ADDITIONAL_SENSE_LENGTH, CURRENT_ERROR, REPLY_ROOM, Refusal, ReturnCode, SCSI_RESPONSE,
+    SCSI_STATUS, SMS_CODE, Sense, StatusByte,
 };
 use wire::fields::{byte_at, word};
 
@@ -116,7 +116,7 @@ fn writable(r: Reply) -> bool
     }
 }
 
-fn response_bytes(tag: u16, code: ReturnCode) -> [u8; RESPONSE_LENGTH]
+fn response_bytes(tag: u16, code: ReturnCode) -> [u8; 5]
     ensures { result ≡ bytes_of (Reply.Response tag code) }
 {
     [
@@ -128,10 +128,10 @@ fn response_bytes(tag: u16, code: ReturnCode) -> [u8; RESPONSE_LENGTH]
     ]
 }
 
-fn status_bytes(tag: u16, status: StatusByte, s: Sense) -> [u8; STATUS_LENGTH]
+fn status_bytes(tag: u16, status: StatusByte, s: Sense) -> [u8; 26]
     ensures { result ≡ bytes_of (Reply.Status tag status s) }
 {
-    let mut b = [0; STATUS_LENGTH];
+    let mut b = [0; 26];
     b[0] = SMS_CODE;
     b[1] = SCSI_STATUS;
     b[2] = (tag / 256) as u8;
@@ -148,10 +148,10 @@ fn status_bytes(tag: u16, status: StatusByte, s: Sense) -> [u8; STATUS_LENGTH]
     b
 }
 
-fn invalid_bytes(tag: u16) -> [u8; STATUS_LENGTH]
+fn invalid_bytes(tag: u16) -> [u8; 26]
     ensures { result ≡ bytes_of (Reply.Invalid tag) }
 {
-    let mut b = [0; STATUS_LENGTH];
+    let mut b = [0; 26];
     b[0] = SMS_CODE;
     b[1] = SCSI_STATUS;
     b[2] = (tag / 256) as u8;
@@ -167,10 +167,10 @@ pub fn write(r: Reply, buf: &mut [u8]) -> Written
     ensures { Writes r buf.old result buf.new }
 {
     if buf.len() < REPLY_ROOM {
-        return Written::Refused(Refusal::SmallBuffer);
+        return Written::Refused(Refusal::SMALL_BUFFER);
     }
     if !writable(r) {
-        return Written::Refused(Refusal::NotWritable);
+        return Written::Refused(Refusal::NOT_WRITABLE);
     }
     match r {
         Reply::Response { tag, code } => {
@@ -230,10 +230,10 @@ fn fit(r: Reply, b: &[u8]) -> Found
     ensures { result ≡ fitted r b.now }
 {
     if !writable(r) {
-        return Found::Refused(Refusal::NotWritable);
+        return Found::Refused(Refusal::NOT_WRITABLE);
     }
     if !stands(r, b) {
-        return Found::Refused(Refusal::NotWritable);
+        return Found::Refused(Refusal::NOT_WRITABLE);
     }
     Found::Reply(r)
 }
@@ -267,28 +267,28 @@ fn as_status(b: &[u8]) -> Reply
     }
 }
 
-// The reply at the start of the bytes, or the refusal: where they are too few, with the length needed.
+// The reply at the start of the bytes, or the number of the refusal.
 pub fn read(b: &[u8]) -> Found
     ensures { result ≡ found_in b.now }
 {
-    if b.len() < HEADER_LENGTH as usize {
-        return Found::Refused(Refusal::TooShort(HEADER_LENGTH));
+    if b.len() < 2 {
+        return Found::Refused(Refusal::TOO_SHORT);
     }
     if b[0] != SMS_CODE {
-        return Found::Refused(Refusal::NotHandled);
+        return Found::Refused(Refusal::NOT_HANDLED);
     }
     let code = b[1];
     if code == SCSI_RESPONSE {
         if b.len() < RESPONSE_LENGTH {
-            return Found::Refused(Refusal::TooShort(RESPONSE_LENGTH as u8));
+            return Found::Refused(Refusal::TOO_SHORT);
         }
         return fit(as_response(b), b);
     }
     if code == SCSI_STATUS {
         if b.len() < STATUS_LENGTH {
-            return Found::Refused(Refusal::TooShort(STATUS_LENGTH as u8));
+            return Found::Refused(Refusal::TOO_SHORT);
         }
         return fit(as_status(b), b);
     }
-    Found::Refused(Refusal::NotHandled)
+    Found::Refused(Refusal::NOT_HANDLED)
 }

@@ -4,5 +4,4 @@ pub mod Entries
 pub mod Examples
 pub mod Unique
 pub mod Promises
-pub mod Counting
 mod Cases

@@ -1,13 +1,11 @@
 -- What is promised of the rule list beside the contracts. Proved in proofs/Promises.antt.
-use Rattle.std.specs.Prelude.{ℕ, ◌≡◌, Bool, true, false, cond, not, ◌&&◌, ◌||◌, List, eqb, leb}
-use Rattle.std.proofs.Math.Option.{Option, none, some}
+use Rattle.std.specs.Prelude.{ℕ, ◌≡◌, Bool, true, false, not, ◌&&◌, List, eqb, leb}
 use Rattle.wire.specs.Codes
 use Rattle.wire.specs.Fields.{byte}
 use Rattle.wire.specs.Messages.{reserved_set}
-use Rattle.wire.specs.Lengths.{NeedsBytes, count_cut}
 use Rattle.wire.specs.declared.message.Flags.{Flags}
 use Rattle.rules.specs.First.{Rule}
-use Rattle.rules.specs.Rules.{resumes_unmarked, misses_resume, reserved_field, deciding}
+use Rattle.rules.specs.Rules.{reserved_field, deciding}
 use Rattle.rules.specs.declared.facts.Facts.{Facts}
 use Rattle.rules.specs.declared.change.SenderChange.{SenderChange}
 use Rattle.rules.specs.declared.change.SenderChange.TheVariants.{Stays, SetMark, ClearMark, ClearMarkAndAttention}
@@ -19,28 +17,6 @@ use Rattle.rules.specs.declared.command.Ruling.TheVariants.{Refuse, Respond, Rep
 -- rule 3 applies to a command exactly where the field behind it is not zero
 abbrev pub ReservedIsTheField : Type 0
 ReservedIsTheField = (m : List ℕ) → byte m 1 ≡ Codes.scsi_command → reserved_set m ≡ not (eqb (reserved_field m) 0)
-
--- ---- the byte count that rule 2 names (M-106)
-
--- the count that an answer names
-abbrev pub count_ruled : Ruling → Option ℕ
-count_ruled (Refuse r) = Codes.byte_count r
-count_ruled (Respond code sender) = none
-count_ruled (Report status sense sender queue) = none
-count_ruled (Invalid sender) = none
-count_ruled Accept = none
-
--- one of rule 1's answers applies
-abbrev pub rule_one : Facts → Flags → Bool
-rule_one f g = resumes_unmarked f g || (misses_resume f g || not f.room)
-
--- for all facts, flags and messages: where rule 1 does not apply, rule 2's count is named, exactly where it has one; no
--- other rule names any. With the same facts and flags the message needs so many bytes
-pub record CountIsOfRule2 : Type 0 where
-  pub exact : (f : Facts) (g : Flags) (m : List ℕ) → count_ruled (deciding f g m).gives ≡ cond (rule_one f g) none (count_cut m)
-  pub rule_2 : (f : Facts) (g : Flags) (m : List ℕ) (n : ℕ) → count_ruled (deciding f g m).gives ≡ some n → (deciding f g m).number ≡ 2
-  pub needs : (f : Facts) (g : Flags) (m : List ℕ) (n : ℕ)
-      → count_ruled (deciding f g m).gives ≡ some n → NeedsBytes (λ b. count_ruled (deciding f g b).gives) m n
 
 -- ---- which rules hold the queue (M-103), and which take the attention
 

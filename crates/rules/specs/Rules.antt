@@ -1,11 +1,11 @@
--- A command, step by step: page 01's list of eleven rules, line by line, with rule 4 as M-100 of page 02 has it, which
--- rules hold the queue as M-103 has it, and the byte count of rule 2 as M-106 has it. Rule 1 has a line for each of its
--- answers; where none of them applies, the list goes on.
+-- A command, step by step: page 01's list of eleven rules, line by line, with rule 4 as M-100 of page 02 has it, and
+-- which rules hold the queue as M-103 has it. Rule 1 has a line for each of its answers; where none of them applies,
+-- the list goes on.
 use Rattle.std.specs.Prelude.{ℕ, ◌+◌, ◌/◌, ◌%◌, Bool, true, cond, not, ◌&&◌, ◌||◌, List, [], ◌∷◌, ◌++◌, length, eqb}
 use Rattle.wire.specs.Codes
 use Rattle.wire.specs.Fields.{byte, word}
 use Rattle.wire.specs.Messages.{reserved_set}
-use Rattle.wire.specs.Block.{opcode, block_length, cut_short, needed, no_block, linked}
+use Rattle.wire.specs.Block.{opcode, block_length, cut_short, no_block, linked}
 use Rattle.wire.specs.declared.message.Flags.{Flags}
 use Rattle.table.specs.Tables.{is_reset, is_cleared}
 use Rattle.rules.specs.First.{Rule, rule, first_that}
@@ -72,7 +72,7 @@ room_rules f g m =
     rule 1 (resumes_unmarked f g) (byte m 10) (Respond Codes.invalid_field Stays)
     ∷ rule 1 (misses_resume f g) (byte m 10) (Refuse Codes.discarded)
     ∷ rule 1 (not f.room) (byte m 10) (Report Codes.task_set_full Codes.no_sense SetMark Leaves)
-    ∷ rule 2 (cut_short m) (length m) (Refuse (Codes.too_short (needed m)))
+    ∷ rule 2 (cut_short m) (length m) (Refuse Codes.too_short)
     ∷ []
 
 -- 3. to 5.: the fields, OOT with CONFIRM, the tag. From here on the mark is cleared

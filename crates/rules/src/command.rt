@@ -1,7 +1,6 @@
 // The rules of a command: the tests, and the first that applies.
 ghost use Rattle.std.specs.Prelude.{◌≡◌, ◌++◌};
 ghost use Rattle.wire.specs.Codes;
-ghost use Rattle.wire.specs.Block.{needed};
 ghost use Rattle.rules.specs.First.{first_that};
 ghost use Rattle.rules.specs.Rules;
 ghost use Rattle.rules.specs.Rules.{asks_aca, resumes_unmarked, misses_resume, passes_attention, reset_to_report, cleared_to_report, field_rules, unit_rules, block_rules, accepts, deciding, decision};
@@ -120,13 +119,6 @@ fn refuse(rule: u8, n: Refusal) -> Decision
         rule,
         ruling: Ruling::Refuse(n),
     }
-}
-
-// Rule 2, with the byte count that it needs.
-fn too_short(m: &[u8]) -> Decision
-    ensures { result ≡ Rules.decided 2 (Ruling.Refuse (Codes.too_short (needed m.now))) }
-{
-    refuse(2, Refusal::TooShort(wire::block::needed(m)))
 }
 
 fn respond(rule: u8, code: ReturnCode, sender: SenderChange) -> Decision
@@ -255,7 +247,7 @@ pub fn decide(f: Facts, g: Flags, m: &[u8]) -> Decision
         return respond(1, ReturnCode::INVALID_FIELD, SenderChange::Stays);
     }
     if misses_resume(f, g) {
-        return refuse(1, Refusal::Discarded);
+        return refuse(1, Refusal::DISCARDED);
     }
     if !f.room {
         return report(
@@ -266,7 +258,7 @@ pub fn decide(f: Facts, g: Flags, m: &[u8]) -> Decision
         );
     }
     if wire::block::cut_short(m) {
-        return too_short(m);
+        return refuse(2, Refusal::TOO_SHORT);
     }
     by_fields(f, g, m)
 }

@@ -4,7 +4,6 @@ use Prim.Native.Nat.{ℕ, zero, suc, ◌+◌, ◌/◌, ◌%◌, ◌^◌, ◌≤�
 use mathlib.Core.Path.{◌≡◌, refl, ap, sym, ◌∙◌}
 use mathlib.Core.Bool.{cond}
 use mathlib.Core.List.{List, [], ◌∷◌, ◌++◌}
-use mathlib.Core.Option.{none}
 use lib.ListN.{length, get_or, take, drop}
 use lib.Seq.{take-suc, take-length, length-take-le}
 use lib.Dec.{ltb}
@@ -12,13 +11,10 @@ use native.Mathlib.Nat.{pow-suc, div-lt_iff_lt-mul}
 use native.Mathlib.Numerals.{add-one}
 use native.Mathlib.Omega.{arith}
 use borrow.Author.Tests.{lt-ltb, le-ltb}
-use Rattle.wire.specs.Codes.{number_of, byte_count}
-use Rattle.wire.specs.declared.codes.Refusal.{Refusal}
-use Rattle.wire.specs.declared.codes.Refusal.TheVariants.{TooShort}
 use Rattle.reply.specs.declared.Reply.{Reply}
 use Rattle.plan.specs.declared.Answer.{Answer}
 use Rattle.transcript.specs.Lines
-use Rattle.transcript.specs.Lines.{pushed, push_all, decimal_in, decimal_of, reply_text, count_text, refusal_text, answer_text, handed_of, handed_in, Handed}
+use Rattle.transcript.specs.Lines.{pushed, push_all, decimal_in, decimal_of, reply_text, answer_text, handed_of, handed_in, Handed}
 use Rattle.transcript.specs.declared.line.Line.{Line}
 
 -- bytes after bytes are put in one go
@@ -111,21 +107,6 @@ module _ (l : Line) {a : Reply} where
   says_both x y e p q t = rw (e, ← t) (two_texts l x y p q)
 
 pub ruleset reply_cases = (says_both, says_reply)
-
--- a refusal: its number, and then its count or nothing
-module _ (l : Line) (r : Refusal) {k : ℕ} {m : Line} (e : k ≡ number_of r) (p : m ≡ push_all l (Lines.refused_word ++ decimal_of k)) where
-  numbered : m ≡ push_all l (Lines.refused_word ++ decimal_of (number_of r))
-  numbered = p ∙ rw e
-
-  pub says_count : (n : ℕ) {o : Line} → r ≡ TooShort n → o ≡ push_all m (Lines.space ∷ decimal_of n) → o ≡ push_all l (refusal_text r)
-  unfolding refusal_text count_text
-  says_count n t q = two_texts l (Lines.refused_word ++ decimal_of (number_of r)) (count_text (byte_count r)) numbered (q ∙ rw t)
-
-  pub says_none : byte_count r ≡ none → m ≡ push_all l (refusal_text r)
-  unfolding refusal_text count_text push_all
-  says_none t = two_texts l (Lines.refused_word ++ decimal_of (number_of r)) (count_text (byte_count r)) numbered (rw t)
-
-pub ruleset refusal_cases = (says_count, says_none)
 
 -- ---- whole lines
 

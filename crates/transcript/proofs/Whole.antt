@@ -12,15 +12,13 @@ use native.Mathlib.Numerals.{add-one}
 use native.Mathlib.Omega.{arith}
 use borrow.Author.Tests.{lt-ltb, le-ltb}
 use Rattle.task.specs.Map.{live_count}
-use Rattle.wire.specs.declared.codes.Refusal.{Refusal}
-use Rattle.wire.specs.declared.codes.Refusal.TheVariants.{TooShort, NotHandled, UnknownPath, Discarded, SmallBuffer, NotAttached, UnitBusy, NothingToStart, NotRunning, BadStatus, BadPaths, Malformed, NotSound, NotWritable, NothingToConfirm}
 use Rattle.wire.proofs.Table.{cond_ind}
 use Rattle.plan.specs.declared.Answer.{Answer}
 use Rattle.reply.specs.declared.Reply.{Reply}
 use Rattle.reply.specs.declared.Reply.TheVariants.{Response, Status, Invalid}
 use Rattle.plan.specs.declared.Answer.TheVariants as answer
 use Rattle.plan.specs.declared.Answer.TheVariants.{Ready, Accepted, Started, Confirmed, Restarted, Reset, Refused}
-use Rattle.transcript.specs.Lines.{empty_line, pushed, push_all, decimal_in, reply_text, count_text, refusal_text, answer_text, line_of, handed_of, handed_in, Handed}
+use Rattle.transcript.specs.Lines.{empty_line, pushed, push_all, decimal_in, reply_text, answer_text, line_of, handed_of, handed_in, Handed}
 use Rattle.transcript.specs.Playing.{turned, turn_text, step_of, line_left, Advances, last_text, last_line}
 use Rattle.transcript.specs.Promises.{Fits, Leaves}
 use Rattle.transcript.specs.declared.line.Line.{Line}
@@ -65,24 +63,6 @@ reply_short (Response tag code) = omega arith
 reply_short (Status tag status sense) = omega arith
 reply_short (Invalid tag) = omega arith
 
-refusal_short : (r : Refusal) → length (refusal_text r) ≤ 31
-unfolding refusal_text count_text decimal_in
-refusal_short (TooShort n) = omega (arith, decimal_short 20 n)
-refusal_short NotHandled = omega arith
-refusal_short UnknownPath = omega arith
-refusal_short Discarded = omega arith
-refusal_short SmallBuffer = omega arith
-refusal_short NotAttached = omega arith
-refusal_short UnitBusy = omega arith
-refusal_short NothingToStart = omega arith
-refusal_short NotRunning = omega arith
-refusal_short BadStatus = omega arith
-refusal_short BadPaths = omega arith
-refusal_short Malformed = omega arith
-refusal_short NotSound = omega arith
-refusal_short NotWritable = omega arith
-refusal_short NothingToConfirm = omega arith
-
 text_short : (a : Answer) → length (answer_text a) ≤ 31
 unfolding answer_text
 text_short Ready = omega arith
@@ -92,7 +72,7 @@ text_short (Started offset arrival) = omega (arith, decimal_short 20 arrival)
 text_short (Confirmed n) = omega (arith, decimal_short 20 n)
 text_short (Restarted n) = omega (arith, decimal_short 20 n)
 text_short Reset = omega arith
-text_short (Refused r) = refusal_short r
+text_short (Refused n) = omega (arith, decimal_short 20 n.0)
 
 line_short : (n : ℕ) (a : Answer) → length (line_of n a) ≤ 64
 line_short n a = simp length-append (omega (arith, decimal_short 20 n, text_short a))
@@ -108,7 +88,7 @@ last_short p = by_state p.state refl
     by_state state.Playing e = rw e (omega arith)
     by_state state.Done e = rw e (simp length-append (omega (arith, decimal_short 20 (live_count p.table.live))))
     by_state state.Bad e = rw e (omega arith)
-    by_state state.Refused e = rw e (simp length-append (omega (arith, refusal_short BadPaths)))
+    by_state state.Refused e = rw e (simp length-append (omega (arith, decimal_short 20 11)))
 
 pub last_whole : (p : Player) → Fits (last_text p)
 last_whole p = whole (last_text p) (last_short p)

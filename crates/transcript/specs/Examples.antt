@@ -1,5 +1,5 @@
 -- Page 01's worked input, byte for byte, and the text that it is played to, as page 02's M-103 has it. Each finish,
--- event 3, has the bytes transferred as its last number. Then an input of short messages, as M-106 has it.
+-- event 3, has the bytes transferred as its last number.
 use Rattle.std.specs.Prelude.{ℕ, ◌≡◌, List, [], ◌∷◌, ◌++◌}
 use Rattle.transcript.specs.Lines.{ascii}
 use Rattle.transcript.specs.Text.{text_of}
@@ -27,26 +27,3 @@ worked_lines =
 
 abbrev pub WorkedText : Type 0
 WorkedText = text_of worked_input ≡ worked_lines
-
--- short messages: no byte; a command of 16 bytes, and of 21; LOGICAL UNIT RESET of 8; a code that is not handled
-abbrev pub short_input : List ℕ
-short_input =
-    0x01 ∷ 0x01 ∷ 0x01 ∷ 0x01
-    ∷ 0x01 ∷ 0x00
-    ∷ 0x01 ∷ 0x10 ∷ 0x83 ∷ 0x10 ∷ 0x00 ∷ 0x05 ∷ 0x00 ∷ 0x00 ∷ 0x00 ∷ 0x01 ∷ 0x00 ∷ 0x00 ∷ 0x03 ∷ 0x00 ∷ 0x00 ∷ 0x00 ∷ 0x00 ∷ 0x00
-    ∷ 0x01 ∷ 0x15 ∷ 0x83 ∷ 0x10 ∷ 0x00 ∷ 0x05 ∷ 0x00 ∷ 0x00 ∷ 0x00 ∷ 0x01 ∷ 0x00 ∷ 0x00 ∷ 0x03 ∷ 0x00 ∷ 0x00 ∷ 0x00 ∷ 0x00 ∷ 0x00 ∷ 0x00 ∷ 0x00 ∷ 0x00 ∷ 0x00 ∷ 0x00
-    ∷ 0x01 ∷ 0x08 ∷ 0x83 ∷ 0x35 ∷ 0x00 ∷ 0x05 ∷ 0x00 ∷ 0x00 ∷ 0x00 ∷ 0x01
-    ∷ 0x01 ∷ 0x02 ∷ 0x83 ∷ 0x20
-    ∷ []
-
-abbrev pub short_lines : List ℕ
-short_lines =
-    ascii "1 refused 1 2\n"
-    ++ ascii "2 refused 1 17\n"
-    ++ ascii "3 refused 1 22\n"
-    ++ ascii "4 refused 1 9\n"
-    ++ ascii "5 refused 2\n"
-    ++ ascii "end ok 0\n"
-
-abbrev pub ShortText : Type 0
-ShortText = text_of short_input ≡ short_lines

@@ -3,9 +3,6 @@
 use Rattle.std.specs.Prelude.{ℕ, zero, suc, ◌+◌, ◌/◌, ◌%◌, List, [], ◌∷◌, ◌++◌, ◌≡◌, cond, ◌||◌, length, set, replicate, take, drop, ltb}
 use Prim.Native.Char.{code}
 use Prim.Native.String.{String, [] as ended, ◌∷◌ as ◌then◌}
-use Rattle.std.proofs.Math.Option.{Option, none, some}
-use Rattle.wire.specs.Codes.{number_of, byte_count}
-use Rattle.wire.specs.declared.codes.Refusal.{Refusal}
 use Rattle.wire.specs.declared.codes.Sense.{Sense}
 use Rattle.reply.specs.declared.Reply.{Reply}
 use Rattle.reply.specs.declared.Reply.TheVariants.{Response, Status, Invalid}
@@ -97,14 +94,6 @@ reply_text (Response tag code) = response_word ++ (hex_word tag ++ hex_of code.0
 reply_text (Status tag status sense) = status_word ++ (hex_word tag ++ (hex_of status.0 ++ sense_text sense))
 reply_text (Invalid tag) = invalid_word ++ hex_word tag
 
--- a refusal: `refused` and its number; beside number 1 the byte count that was needed, in decimal (page 02, M-106)
-unfoldable pub count_text : Option ℕ → List ℕ
-count_text none = []
-count_text (some needed) = space ∷ decimal_of needed
-
-unfoldable pub refusal_text : Refusal → List ℕ
-refusal_text r = (refused_word ++ decimal_of (number_of r)) ++ count_text (byte_count r)
-
 -- what stands behind the event's number
 unfoldable pub answer_text : Answer → List ℕ
 answer_text Ready = []
@@ -114,21 +103,21 @@ answer_text (Started offset arrival) = started_word ++ decimal_of arrival
 answer_text (Confirmed n) = confirmed_word ++ decimal_of n
 answer_text (Restarted n) = restarted_word ++ decimal_of n
 answer_text Reset = reset_word
-answer_text (Refused r) = refusal_text r
+answer_text (Refused n) = refused_word ++ decimal_of n.0
 
 -- the line of event n
 abbrev pub line_of : ℕ → Answer → List ℕ
 line_of n a = decimal_of n ++ (answer_text a ++ (newline ∷ []))
 
--- the last line: `end ok` and the live count, `end bad`, `end` and a refusal
+-- the last line: `end ok` and the live count, `end bad`, `end refused 11`
 abbrev pub end_ok : ℕ → List ℕ
 end_ok live = end_word ++ (ok_word ++ (decimal_of live ++ (newline ∷ [])))
 
 abbrev pub end_bad : List ℕ
 end_bad = end_word ++ (bad_word ++ (newline ∷ []))
 
-abbrev pub end_refused : Refusal → List ℕ
-end_refused r = end_word ++ (refusal_text r ++ (newline ∷ []))
+abbrev pub end_refused : ℕ → List ℕ
+end_refused n = end_word ++ (refused_word ++ (decimal_of n ++ (newline ∷ [])))
 
 -- ---- a line in the making: 64 bytes, of which the first `len` are written; a full line takes no more
 

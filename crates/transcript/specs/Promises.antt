@@ -1,23 +1,14 @@
 -- What is promised of the transcript beside the contracts. Each is proved in proofs/Promises.antt.
-use Rattle.std.specs.Prelude.{ℕ, suc, ◌+◌, ◌≤◌, ◌≡◌, List, ◌++◌, length, take}
-use Rattle.std.proofs.Math.Option.{none}
-use Rattle.wire.specs.Codes.{too_short, number_of, byte_count}
-use Rattle.wire.specs.declared.codes.Refusal.{Refusal}
+use Rattle.std.specs.Prelude.{ℕ, suc, ◌+◌, ◌≤◌, ◌≡◌, List, length, take}
 use Rattle.table.specs.declared.Table.{Table}
 use Rattle.plan.specs.declared.Answer.{Answer}
-use Rattle.plan.specs.declared.Answer.TheVariants.{Refused}
-use Rattle.transcript.specs.Lines.{ascii, decimal_of, answer_text, empty_line, push_all, line_of, Handed}
+use Rattle.transcript.specs.Lines.{empty_line, push_all, line_of, Handed}
 use Rattle.transcript.specs.Text.{text_from, text_of}
 use Rattle.transcript.specs.Playing.{turned, turn_text, Advances, last_text, last_line, printed}
 use Rattle.transcript.specs.declared.play.Player.{Player}
 use Rattle.transcript.specs.declared.play.Step.{Step}
 
 -- ---- the text
-
--- a refusal without a count says its number alone; refusal 1 says the count behind it
-pub record SaysRefusals : Type 0 where
-  pub number : (r : Refusal) → byte_count r ≡ none → answer_text (Refused r) ≡ ascii " refused " ++ decimal_of (number_of r)
-  pub count : (n : ℕ) → answer_text (Refused (too_short n)) ≡ ascii " refused 1 " ++ decimal_of n
 
 -- the count of events that may follow never runs out: one more changes nothing
 abbrev pub NothingIsCut : Type 0

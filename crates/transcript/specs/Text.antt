@@ -19,9 +19,9 @@ use Rattle.transcript.specs.Lines.{line_of, end_ok, end_bad, end_refused}
 abbrev pub longest : ℕ
 longest = 65536
 
--- the last line of an input that is refused: `end bad` for a malformed one, the refusal for any other
+-- the last line of an input that is refused: `end bad` for a malformed one, the refusal's number for any other
 abbrev pub end_of : Refusal → List ℕ
-end_of r = cond (eqb (Codes.number_of r) (Codes.number_of Codes.malformed)) end_bad (end_refused r)
+end_of r = cond (eqb r.0 (Codes.malformed).0) end_bad (end_refused r.0)
 
 -- the part of the input from one place up to another
 unfoldable pub part_of : List ℕ → ℕ → ℕ → List ℕ

@@ -1,12 +1,12 @@
 // A line of the transcript, made byte by byte. No line is longer than 64 bytes; a line that is full takes no more.
 ghost use Rattle.std.specs.Prelude.{◌≡◌, ◌%◌, ◌++◌};
 ghost use Rattle.wire.specs.Codes;
-ghost use Rattle.transcript.specs.Lines.{empty_line, pushed, push_all, decimal_of, digit_of, hex_of, hex_word, sense_text, reply_text, refusal_text, answer_text, line_of, end_ok, Handed};
+ghost use Rattle.transcript.specs.Lines.{empty_line, pushed, push_all, decimal_of, digit_of, hex_of, hex_word, sense_text, reply_text, answer_text, line_of, end_ok, Handed};
 ghost use Rattle.transcript.specs.Text.{end_of};
 
 use plan::Answer;
 use reply::Reply;
-use wire::codes::{Refusal, Sense};
+use wire::codes::Sense;
 
 #[derive(Drop)]
 pub struct Line {
@@ -124,17 +124,6 @@ fn push_reply(l: Line, r: Reply) -> Line
     }
 }
 
-// What a refusal says: its number, and beside number 1 the byte count that was needed.
-fn push_refusal(l: Line, r: Refusal) -> Line
-    ensures { result ≡ push_all l (refusal_text r) }
-{
-    let numbered = push_number(l, b" refused ", wire::codes::number_of(r) as u64);
-    match r {
-        Refusal::TooShort(needed) => push_number(numbered, b" ", needed as u64),
-        _ => numbered,
-    }
-}
-
 // What an answer says behind the event's number.
 fn push_answer(l: Line, a: Answer) -> Line
     ensures { result ≡ push_all l (answer_text a) }
@@ -147,7 +136,7 @@ fn push_answer(l: Line, a: Answer) -> Line
         Answer::Confirmed(n) => push_number(l, b" confirmed ", n),
         Answer::Restarted(n) => push_number(l, b" restarted ", n),
         Answer::Reset => push_word(l, b" reset"),
-        Answer::Refused(r) => push_refusal(l, r),
+        Answer::Refused(n) => push_number(l, b" refused ", n.0 as u64),
     }
 }
 

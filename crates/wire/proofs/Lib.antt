@@ -2,7 +2,6 @@
 pub mod Table
 pub mod Promises
 pub mod Past
-pub mod Lengths
 pub mod Unique
 mod Rows
 mod Masks

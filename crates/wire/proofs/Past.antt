@@ -71,12 +71,11 @@ module _ (m rest : List ℕ) where
         let seven : row ≡ 7 = omega (arith, r, is_not 4 f, is_not 5 g, is_not 6 h) in
         unit_reset m {row = row} tag path (is_not 0 a) (is_not 1 b) (is_not 2 c) (is_not 3 d) (is_not 4 f) (is_not 5 g) (is_not 6 h) (has 8 7 seven (lit< tt)))))))))
 
-  fields : ((n : ℕ) → read_of m ≡ Refused (too_short n) → ⊥) → read_of (m ++ rest) ≡ read_of m
+  fields : (read_of m ≡ Refused too_short → ⊥) → read_of (m ++ rest) ≡ read_of m
   fields =
-      each_reading (λ r. ((n : ℕ) → r ≡ Refused (too_short n) → ⊥) → read_of (m ++ rest) ≡ r) m (λ _ n. absurd (n 2 refl))
+      each_reading (λ r. (r ≡ Refused too_short → ⊥) → read_of (m ++ rest) ≡ r) m (λ n. absurd (n refl))
       (λ h n _. sym (not_ours (m ++ rest) (longer 2 h) (λ e. n (sym (same 0 (omega arith)) ∙ e))))
       (λ h e z _. sym (no_row (m ++ rest) (longer 2 h) (same 0 (omega arith) ∙ e) (row_same h) z))
-      (λ _ _ _ _ n. absurd (n _ refl))
       (λ h e z l _. sym (whole (m ++ rest) (longer 2 h) (same 0 (omega arith) ∙ e) (row_same h) (λ q. omega arith) (longer _ l) (sym (fields_same _ z l))))
     where
       row_same : 2 ≤ length m → row_of (byte m 1) ≡ row_of (byte (m ++ rest) 1)
@@ -95,11 +94,8 @@ module _ (m rest : List ℕ) where
     length_same : block_length m ≡ block_length (m ++ rest)
     length_same = ap (λ b. get_or block_lengths (b / 32) 0) (sym first)
 
-    end_same : 16 + block_length m ≡ 16 + block_length (m ++ rest)
-    end_same = ap (λ n. 16 + n) length_same
-
     cut : cut_short (m ++ rest) ≡ false
-    cut = sym (blocks.bytes (m ++ rest) end_same (longer 17 whole_block.0)) ∙ le-ltb _ _ (longer _ whole_block.1)
+    cut = sym (blocks.bytes (m ++ rest) length_same (longer 17 whole_block.0)) ∙ le-ltb _ _ (longer _ whole_block.1)
 
     group : no_block (m ++ rest) ≡ no_block m
     group = sym (blocks.group (m ++ rest) length_same) ∙ blocks.group m refl
@@ -110,7 +106,7 @@ module _ (m rest : List ℕ) where
 
     block : block_of (m ++ rest) ≡ block_of m
     block =
-        let p = blocks.part (m ++ rest) end_same (longer 17 whole_block.0) (longer _ whole_block.1) in
+        let p = blocks.part (m ++ rest) length_same (longer 17 whole_block.0) (longer _ whole_block.1) in
         let q = blocks.part m refl whole_block.0 whole_block.1 in
         let n : ℕ = 16 + block_length m - 16 in
         let l : n ≤ length (drop 16 m) = omega (arith, length-drop 16 m, whole_block.1) in
@@ -124,8 +120,7 @@ module _ (m rest : List ℕ) where
 
   long_enough : ((n : Refusal) → read_of m ≡ Refused n → ⊥) → Long
   long_enough =
-      each_reading (λ r. ((n : Refusal) → r ≡ Refused n → ⊥) → Long) m (λ _ n. absurd (n _ refl)) (λ _ _ n. absurd (n _ refl)) (λ _ _ _ n. absurd (n _ refl))
-      (λ _ _ _ _ n. absurd (n _ refl)) (λ h _ _ l _. (h, l))
+      each_reading (λ r. ((n : Refusal) → r ≡ Refused n → ⊥) → Long) m (λ n. absurd (n _ refl)) (λ _ _ n. absurd (n _ refl)) (λ _ _ _ n. absurd (n _ refl)) (λ h _ _ l _. (h, l))
 
   reserved : Whole m → reserved_set (m ++ rest) ≡ reserved_set m
   unfolding reserved_set command_reserved confirm_reserved row_in

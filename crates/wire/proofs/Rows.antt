@@ -6,17 +6,15 @@ use mathlib.Core.Bool.{not}
 use mathlib.Core.List.{List, [], ◌∷◌}
 use lib.ListN.{length, get_or, drop, drop_of_length-le}
 use lib.Seq.{drop-cons}
-use lib.Dec.{leb, ltb, eqb}
+use lib.Dec.{ltb, eqb}
 use native.Mathlib.Nat.{add-zero}
 use native.Mathlib.Numerals.{add-one}
 use native.Mathlib.Omega.{arith}
-use borrow.Author.Tests.{leb-true, lt-ltb, le-ltb, ltb-true, ltb-false, eq-eqb, ne_eqb, eqb-true, eqb-false, not_true, not-false}
-use mir.Syntax.{w64}
-use mir.Val.{Fits}
+use borrow.Author.Tests.{lt-ltb, le-ltb, ltb-false, eq-eqb, ne_eqb, eqb-true, eqb-false, not_true, not-false}
 use Rattle.wire.specs.Codes.{too_short, not_handled, sms_code}
 use Rattle.wire.specs.Fields.{byte, joined, word, long}
-use Rattle.wire.specs.Messages.{codes, lengths, rows, row_in, row_of, length_of, flags_of, confirm_of, fields_of, read_of}
-use Rattle.wire.proofs.Table.{at, cond_ind}
+use Rattle.wire.specs.Messages.{codes, rows, row_in, row_of, length_of, flags_of, confirm_of, fields_of, read_of}
+use Rattle.wire.proofs.Table.{cond_ind}
 use Rattle.wire.specs.declared.message.Flags.{Flags}
 use Rattle.wire.specs.declared.message.Message.{Message}
 use Rattle.wire.specs.declared.message.Message.TheVariants.{Command, ConfirmStatus, AbortTask, AbortTaskSet, ClearTaskSet, TargetReset, ClearAca, UnitReset, Refused}
@@ -58,10 +56,6 @@ place_holds x (y ∷ ys) =
 -- a row that is found is one of the table
 pub in_table : (code : ℕ) {row : ℕ} → row ≡ row_of code → (row ≡ rows → ⊥) → row < rows
 in_table code e n = omega (arith, place_within code codes)
-
--- the length that a row needs is a byte's
-pub length_fits : (row : ℕ) → Fits w64 (length_of row)
-length_fits row = record { fits = omega (arith, leb-true (length_of row) 17 (at 0 (λ _ x. leb x 17) lengths refl row (λ _. refl))) }
 
 -- ---- the message of a row
 
@@ -107,7 +101,7 @@ pub ruleset fields_cases = (command, confirm, abort_task, abort_set, clear_set, 
 
 -- ---- what is read
 
-pub no_codes : (m : List ℕ) → length m < 2 → Refused (too_short 2) ≡ read_of m
+pub no_codes : (m : List ℕ) → length m < 2 → Refused too_short ≡ read_of m
 unfolding read_of
 no_codes m h = simp (lt-ltb _ _ h)
 
@@ -122,7 +116,7 @@ module _ (m : List ℕ) (h : 2 ≤ length m) where
     no_row z = simp (le-ltb _ _ h, eq-eqb _ _ e, ← r, eq-eqb _ _ z)
 
     module _ (z : row ≡ rows → ⊥) where
-      pub short : length m < length_of row → Refused (too_short (length_of row)) ≡ read_of m
+      pub short : length m < length_of row → Refused too_short ≡ read_of m
       unfolding read_of
       short l = simp (le-ltb _ _ h, eq-eqb _ _ e, ← r, ne_eqb _ _ z, lt-ltb _ _ l)
 
@@ -130,21 +124,19 @@ module _ (m : List ℕ) (h : 2 ≤ length m) where
       unfolding read_of
       whole l f = f ∙ simp (le-ltb _ _ h, eq-eqb _ _ e, ← r, ne_eqb _ _ z, le-ltb _ _ l)
 
--- one of the five ways out, with what the tests on it found
+-- one of the four ways out, with what the tests on it found
 module _ (P : Message → Type 0) (m : List ℕ) where
-  pub each_reading : (length m < 2 → P (Refused (too_short 2)))
+  pub each_reading : P (Refused too_short)
       → (2 ≤ length m → (byte m 0 ≡ sms_code → ⊥) → P (Refused not_handled))
       → (2 ≤ length m → byte m 0 ≡ sms_code → row_of (byte m 1) ≡ rows → P (Refused not_handled))
-      → (2 ≤ length m → byte m 0 ≡ sms_code → row_of (byte m 1) < rows → length m < length_of (row_of (byte m 1)) → P (Refused (too_short (length_of (row_of (byte m 1))))))
       → (2 ≤ length m → byte m 0 ≡ sms_code → row_of (byte m 1) < rows → length_of (row_of (byte m 1)) ≤ length m → P (fields_of (row_of (byte m 1)) m))
       → P (read_of m)
   unfolding read_of
-  each_reading two ours row few message =
-      cond_ind P (ltb (length m) 2) (λ h. two (ltb-true _ _ h))
+  each_reading refused ours row message =
+      cond_ind P (ltb (length m) 2) (λ _. refused)
       (λ h. cond_ind P (not (eqb (byte m 0) sms_code)) (λ n. ours (ltb-false _ _ h) (eqb-false _ _ (not_true _ n)))
       (λ e. cond_ind P (eqb (row_of (byte m 1)) rows) (λ z. row (ltb-false _ _ h) (eqb-true _ _ (not-false _ e)) (eqb-true _ _ z))
-      (λ z. cond_ind P (ltb (length m) (length_of (row_of (byte m 1))))
-      (λ l. few (ltb-false _ _ h) (eqb-true _ _ (not-false _ e)) (in_table (byte m 1) refl (eqb-false _ _ z)) (ltb-true _ _ l))
+      (λ z. cond_ind P (ltb (length m) (length_of (row_of (byte m 1)))) (λ _. refused)
       (λ l. message (ltb-false _ _ h) (eqb-true _ _ (not-false _ e)) (in_table (byte m 1) refl (eqb-false _ _ z)) (ltb-false _ _ l)))))
 
-pub ruleset read_cases = (in_table, length_fits, no_codes, not_ours, no_row, short, whole)
+pub ruleset read_cases = (in_table, no_codes, not_ours, no_row, short, whole)

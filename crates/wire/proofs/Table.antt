@@ -1,13 +1,10 @@
--- A rule of a table, proved at all of its entries by one test that antt computes; choices by a test, and a count that
--- may be none, taken apart.
+-- A rule of a table, proved at all of its entries by one test that antt computes; and choices by a test, taken apart.
 -- Assumes nothing.
 use Prim.Native.Nat.{ℕ, zero, suc, ◌≤◌, zero-le, suc-le-suc}
 use mathlib.Core.Path.{◌≡◌, refl}
 use mathlib.Core.Bool.{Bool, true, false, cond, ◌&&◌, ◌||◌, and-eq-true_iff, true≢false}
 use mathlib.Core.List.{List, [], ◌∷◌}
-use mathlib.Core.Option.{none, some}
 use lib.ListN.{length, get_or}
-use native.Mathlib.Omega.{arith}
 
 module _ {A : Type 0} where
   -- the test f passes at each entry of the list and its place
@@ -35,10 +32,3 @@ cond_same false f g = g refl
 pub neither : (a b : Bool) → (a || b) ≡ false → (a ≡ false) × (b ≡ false)
 neither true b e = absurd (true≢false e)
 neither false b e = (refl, e)
-
--- none is no count, and a count is one
-pub no_count : {A : Type 0} {n : ℕ} → none ≡ some n → A
-no_count e = let z : ◌≡◌ {A = ℕ} 0 1 = cc in absurd (omega arith)
-
-pub one_count : {k n : ℕ} → some k ≡ some n → k ≡ n
-one_count e = cc

@@ -9,13 +9,11 @@ determined h l = h ∙ sym l
 
 pub answers_are_one : AnswersAreOne
 answers_are_one = record {
-  number_of_is_one = λ _ _ _. determined;
   byte_at_is_one = λ _ _ _ _. determined;
   word_is_one = λ _ _ _ _. determined;
   read_is_one = λ _ _ _. determined;
   reserved_set_is_one = λ _ _ _. determined;
   cut_short_is_one = λ _ _ _. determined;
-  needed_is_one = λ _ _ _. determined;
   no_length_is_one = λ _ _ _. determined;
   is_linked_is_one = λ _ _ _. determined;
   command_block_is_one = λ _ _ _. determined;

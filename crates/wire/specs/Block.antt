@@ -6,31 +6,19 @@ use Rattle.wire.specs.Fields.{byte}
 abbrev pub block_lengths : List ℕ
 block_lengths = 6 ∷ 10 ∷ 10 ∷ 0 ∷ 16 ∷ 12 ∷ 0 ∷ 0 ∷ []
 
--- the block begins at byte 16, so that with 17 bytes its first one is there
-abbrev pub block_at : ℕ
-block_at = 16
-
-abbrev pub with_opcode : ℕ
-with_opcode = 17
-
 abbrev pub opcode : List ℕ → ℕ
-opcode m = byte m block_at
+opcode m = byte m 16
 
 abbrev pub block_length : List ℕ → ℕ
 block_length m = get_or block_lengths (opcode m / 32) 0
 
--- rule 2: under 17 bytes, or under 16 plus the length of the block
+-- rule 2: under 17 bytes, or under 16 plus the length of the block; where there is none, 17 bytes are enough
 unfoldable pub cut_short : List ℕ → Bool
-cut_short m = ltb (length m) with_opcode || ltb (length m) (block_at + block_length m)
+cut_short m = ltb (length m) 17 || ltb (length m) (16 + block_length m)
 
 -- rule 9: there is no length for the block
 unfoldable pub no_block : List ℕ → Bool
 no_block m = eqb (block_length m) 0
-
--- the byte count that rule 2 needs (page 02, M-106): 17 where byte 16 is not there, else 16 plus the length of the block;
--- where there is none, 17 bytes are enough
-unfoldable pub needed : List ℕ → ℕ
-needed m = cond (ltb (length m) with_opcode || no_block m) with_opcode (block_at + block_length m)
 
 -- rule 10: bit 0 or 1 (LINK, FLAG) of the last byte of the block; NACA, bit 2, is ignored
 unfoldable pub linked : List ℕ → Bool
@@ -38,4 +26,4 @@ linked m = cond (no_block m) false (not (eqb (byte m (15 + block_length m) % 4) 
 
 -- the block: the part of the message that holds it, and an empty part where the message does not
 unfoldable pub block_of : List ℕ → List ℕ
-block_of m = cond (cut_short m) [] (take (block_length m) (drop block_at m))
+block_of m = cond (cut_short m) [] (take (block_length m) (drop 16 m))

@@ -1,10 +1,8 @@
 -- The numbers of page 01 and 003 under their names: page 01's refusals, the codes of 003's tables 4, 6, 9, 10 and 21,
--- and those of SCSI-3 that page 01 names. They stand here for every crate above; places, masks and the lengths of each
--- message stand with the layouts (Messages.antt, Block.antt).
+-- and those of SCSI-3 that page 01 names. They stand here for every crate above; places, lengths and masks stand with
+-- the layouts (Messages.antt, Block.antt).
 use Rattle.std.specs.Prelude.{ℕ}
-use Rattle.std.proofs.Math.Option.{Option, none, some}
 use Rattle.wire.specs.declared.codes.Refusal.{Refusal}
-use Rattle.wire.specs.declared.codes.Refusal.TheVariants.{TooShort, NotHandled, UnknownPath, Discarded, SmallBuffer, NotAttached, UnitBusy, NothingToStart, NotRunning, BadStatus, BadPaths, Malformed, NotSound, NotWritable, NothingToConfirm}
 use Rattle.wire.specs.declared.codes.ReturnCode.{ReturnCode}
 use Rattle.wire.specs.declared.codes.StatusByte.{StatusByte}
 use Rattle.wire.specs.declared.codes.Sense.{Sense}
@@ -12,111 +10,74 @@ use Rattle.wire.specs.declared.codes.Queue.{Queue}
 
 -- ---- page 01, numbered refusals
 
--- message shorter than its specified length; with the byte count that the check needed (page 02, M-106)
-abbrev pub too_short : ℕ → Refusal
-too_short needed = TooShort needed
+abbrev pub refusal : ℕ → Refusal
+refusal n = record { 0 = n }
+
+-- message shorter than its specified length
+abbrev pub too_short : Refusal
+too_short = refusal 1
 
 -- SMS CODE not 83h, or S3P CODE not one handled
 abbrev pub not_handled : Refusal
-not_handled = NotHandled
+not_handled = refusal 2
 
 -- RETURN PATH ID not in the path list
 abbrev pub unknown_path : Refusal
-unknown_path = UnknownPath
+unknown_path = refusal 3
 
 -- command discarded in buffer-full condition
 abbrev pub discarded : Refusal
-discarded = Discarded
+discarded = refusal 4
 
 -- reply buffer under 64 bytes
 abbrev pub small_buffer : Refusal
-small_buffer = SmallBuffer
+small_buffer = refusal 5
 
 -- start: unit above 7 or not attached
 abbrev pub not_attached : Refusal
-not_attached = NotAttached
+not_attached = refusal 6
 
 -- start: a task runs on the unit
 abbrev pub unit_busy : Refusal
-unit_busy = UnitBusy
+unit_busy = refusal 7
 
 -- start: no waiting task may run
 abbrev pub nothing_to_start : Refusal
-nothing_to_start = NothingToStart
+nothing_to_start = refusal 8
 
 -- finish: no running task has this arrival number
 abbrev pub not_running : Refusal
-not_running = NotRunning
+not_running = refusal 9
 
 -- finish: status not 00h, 02h, 04h, 18h, or sense key above 15
 abbrev pub bad_status : Refusal
-bad_status = BadStatus
+bad_status = refusal 10
 
 -- setup: 0 paths, over 8, or an id twice
 abbrev pub bad_paths : Refusal
-bad_paths = BadPaths
+bad_paths = refusal 11
 
 -- transcript malformed
 abbrev pub malformed : Refusal
-malformed = Malformed
+malformed = refusal 12
 
 -- the table handed in isn't sound
 abbrev pub not_sound : Refusal
-not_sound = NotSound
+not_sound = refusal 13
 
 -- reply reader or writer: not a reply that the engine can write
 abbrev pub not_writable : Refusal
-not_writable = NotWritable
+not_writable = refusal 14
 
 -- page 02, M-100. CONFIRM STATUS: no task of that path and tag waits to be confirmed
 abbrev pub nothing_to_confirm : Refusal
-nothing_to_confirm = NothingToConfirm
-
--- page 01's number of each
-abbrev pub number_of : Refusal → ℕ
-number_of (TooShort needed) = 1
-number_of NotHandled = 2
-number_of UnknownPath = 3
-number_of Discarded = 4
-number_of SmallBuffer = 5
-number_of NotAttached = 6
-number_of UnitBusy = 7
-number_of NothingToStart = 8
-number_of NotRunning = 9
-number_of BadStatus = 10
-number_of BadPaths = 11
-number_of Malformed = 12
-number_of NotSound = 13
-number_of NotWritable = 14
-number_of NothingToConfirm = 15
-
--- the byte count that stands beside the number: refusal 1 has one, and no other
-abbrev pub byte_count : Refusal → Option ℕ
-byte_count (TooShort needed) = some needed
-byte_count NotHandled = none
-byte_count UnknownPath = none
-byte_count Discarded = none
-byte_count SmallBuffer = none
-byte_count NotAttached = none
-byte_count UnitBusy = none
-byte_count NothingToStart = none
-byte_count NotRunning = none
-byte_count BadStatus = none
-byte_count BadPaths = none
-byte_count Malformed = none
-byte_count NotSound = none
-byte_count NotWritable = none
-byte_count NothingToConfirm = none
+nothing_to_confirm = refusal 15
 
 -- the reply buffer that every call with a reply asks for
 abbrev pub reply_room : ℕ
 reply_room = 64
 
 -- ---- 003, table 4: SMS CODE, and S3P CODE of each message
-
--- the bytes that hold the two, without which nothing is read
-abbrev pub header_length : ℕ
-header_length = 2
 
 abbrev pub sms_code : ℕ
 sms_code = 0x83

@@ -1,7 +1,7 @@
 -- The messages that are received (003, tables 4, 5, 11 and 14 to 19): the table of them, the fields of each, and
 -- which bytes are none.
 use Rattle.std.specs.Prelude.{ℕ, ◌+◌, ◌/◌, ◌%◌, List, [], ◌∷◌, Bool, false, cond, not, ◌||◌, length, get_or, ltb, eqb}
-use Rattle.wire.specs.Codes.{too_short, not_handled, queue, header_length, sms_code}
+use Rattle.wire.specs.Codes.{too_short, not_handled, queue, sms_code}
 use Rattle.wire.specs.Codes.{scsi_command, confirm_status, abort_task, abort_task_set, clear_task_set, target_reset, clear_aca, logical_unit_reset}
 use Rattle.wire.specs.Fields.{byte, word, long}
 use Rattle.wire.specs.declared.message.Flags.{Flags}
@@ -61,14 +61,13 @@ fields_of row m =
     (cond (eqb row 6) (ClearAca (word m 2) (long m 4) (byte m 8))
     (UnitReset (word m 2) (long m 4) (byte m 8))))))))
 
--- 1 if under 2 bytes, 2, then 1 if under the length needed; beside 1 stands the count that was needed. Bytes past the
--- length needed are not read
+-- 1 if under 2 bytes, 2, then 1 if under the length needed; bytes past it are not read
 unfoldable pub read_of : List ℕ → Message
 read_of m =
-    cond (ltb (length m) header_length) (Refused (too_short header_length))
+    cond (ltb (length m) 2) (Refused too_short)
     (cond (not (eqb (byte m 0) sms_code)) (Refused not_handled)
     (cond (eqb (row_of (byte m 1)) rows) (Refused not_handled)
-    (cond (ltb (length m) (length_of (row_of (byte m 1)))) (Refused (too_short (length_of (row_of (byte m 1)))))
+    (cond (ltb (length m) (length_of (row_of (byte m 1)))) (Refused too_short)
     (fields_of (row_of (byte m 1)) m))))
 
 -- ---- the reserved fields

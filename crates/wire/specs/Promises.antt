@@ -1,9 +1,7 @@
--- What is promised of `wire` beside its contracts: what a refusal's number and count say, what is read bears its S3P
--- CODE, and bytes past the specified length are not read. Each is proved in proofs/Promises.antt and proofs/Past.antt;
--- Lengths.antt has what the count beside refusal 1 says of a message.
+-- What is promised of `wire` beside its contracts: what is read bears its S3P CODE, and bytes past the specified
+-- length are not read. Each is proved in proofs/Promises.antt and proofs/Past.antt.
 use Rattle.std.specs.Prelude.{ℕ, ◌≡◌, false, ◌⊎◌, List, ◌++◌}
-use Rattle.std.proofs.Math.Option.{some}
-use Rattle.wire.specs.Codes.{too_short, number_of, byte_count}
+use Rattle.wire.specs.Codes.{too_short, not_handled}
 use Rattle.wire.specs.Codes.{scsi_command, confirm_status, abort_task, abort_task_set, clear_task_set, target_reset, clear_aca, logical_unit_reset}
 use Rattle.wire.specs.Fields.{byte}
 use Rattle.wire.specs.Messages.{read_of, reserved_set}
@@ -11,15 +9,6 @@ use Rattle.wire.specs.Block.{opcode, cut_short, no_block, linked, block_of}
 use Rattle.wire.specs.declared.codes.Refusal.{Refusal}
 use Rattle.wire.specs.declared.message.Message.{Message}
 use Rattle.wire.specs.declared.message.Message.TheVariants.{Command, ConfirmStatus, AbortTask, AbortTaskSet, ClearTaskSet, TargetReset, ClearAca, UnitReset, Refused}
-
--- ---- a refusal by its number
-
--- refusal 1 has a byte count beside its number, and no other has one; by the two together a refusal is told from every
--- other
-pub record ToldByNumber : Type 0 where
-  pub has_count : (r : Refusal) → number_of r ≡ 1 → (n : ℕ) × (byte_count r ≡ some n)
-  pub no_other : (r : Refusal) (n : ℕ) → byte_count r ≡ some n → number_of r ≡ 1
-  pub told : (r s : Refusal) → number_of r ≡ number_of s → byte_count r ≡ byte_count s → r ≡ s
 
 -- ---- what is read
 
@@ -41,7 +30,7 @@ ReadByCode = (m : List ℕ) (r : Message) → r ≡ read_of m → ((n : Refusal)
 
 -- a refusal is 1 or 2
 abbrev pub ReadRefusals : Type 0
-ReadRefusals = (m : List ℕ) (r : Refusal) → Refused r ≡ read_of m → (number_of r ≡ 1) ⊎ (number_of r ≡ 2)
+ReadRefusals = (m : List ℕ) (n : Refusal) → Refused n ≡ read_of m → (n ≡ too_short) ⊎ (n ≡ not_handled)
 
 -- ---- bytes past the specified length are not read
 
@@ -53,7 +42,7 @@ pub record Whole (m : List ℕ) : Type 0 where
 -- bytes after it change no answer; what `read` answers wants no whole block, and what is asked of the block wants no
 -- more than the block
 pub record PastIsNotRead : Type 0 where
-  pub read : (m rest : List ℕ) → ((n : ℕ) → read_of m ≡ Refused (too_short n) → ⊥) → read_of (m ++ rest) ≡ read_of m
+  pub read : (m rest : List ℕ) → (read_of m ≡ Refused too_short → ⊥) → read_of (m ++ rest) ≡ read_of m
   pub reserved_set_past : (m rest : List ℕ) → Whole m → reserved_set (m ++ rest) ≡ reserved_set m
   pub cut_short_past : (m rest : List ℕ) → cut_short m ≡ false → cut_short (m ++ rest) ≡ false
   pub first_byte : (m rest : List ℕ) → cut_short m ≡ false → opcode (m ++ rest) ≡ opcode m

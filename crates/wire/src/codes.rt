@@ -1,13 +1,8 @@
 // The numbers of page 01 and 003, those of a type as its associated constants. specs/Codes.antt has them under the
 // same names and says when each is meant.
-ghost use Rattle.std.specs.Prelude.{◌≡◌};
-ghost use Rattle.wire.specs.Codes.{number_of};
 
 // The reply buffer that every call with a reply asks for.
 pub const REPLY_ROOM: usize = 64;
-
-// The bytes that say what a message or a reply is: SMS CODE and S3P CODE.
-pub const HEADER_LENGTH: u8 = 2;
 
 // SMS CODE of every message, and the S3P CODE of each (003, table 4).
 pub const SMS_CODE: u8 = 0x83;
@@ -37,48 +32,40 @@ pub const INQUIRY: u8 = 0x12;
 
 pub const REQUEST_SENSE: u8 = 0x03;
 
-// A numbered refusal (page 01, "Numbered refusals"). The first says how many bytes its check needed (page 02, M-106); no
-// other has such a count.
+// A numbered refusal (page 01, "Numbered refusals").
 #[derive(Drop)]
-pub enum Refusal {
-    TooShort(u8),
-    NotHandled,
-    UnknownPath,
-    Discarded,
-    SmallBuffer,
-    NotAttached,
-    UnitBusy,
-    NothingToStart,
-    NotRunning,
-    BadStatus,
-    BadPaths,
-    Malformed,
-    NotSound,
-    NotWritable,
-    NothingToConfirm,
-}
+pub struct Refusal(pub u8);
 
-// Page 01's number of a refusal.
-pub fn number_of(r: Refusal) -> u8
-    ensures { result ≡ number_of r }
-{
-    match r {
-        Refusal::TooShort(_) => 1,
-        Refusal::NotHandled => 2,
-        Refusal::UnknownPath => 3,
-        Refusal::Discarded => 4,
-        Refusal::SmallBuffer => 5,
-        Refusal::NotAttached => 6,
-        Refusal::UnitBusy => 7,
-        Refusal::NothingToStart => 8,
-        Refusal::NotRunning => 9,
-        Refusal::BadStatus => 10,
-        Refusal::BadPaths => 11,
-        Refusal::Malformed => 12,
-        Refusal::NotSound => 13,
-        Refusal::NotWritable => 14,
-        Refusal::NothingToConfirm => 15,
-    }
+impl Refusal {
+    pub const TOO_SHORT: Refusal = Refusal(1);
+
+    pub const NOT_HANDLED: Refusal = Refusal(2);
+
+    pub const UNKNOWN_PATH: Refusal = Refusal(3);
+
+    pub const DISCARDED: Refusal = Refusal(4);
+
+    pub const SMALL_BUFFER: Refusal = Refusal(5);
+
+    pub const NOT_ATTACHED: Refusal = Refusal(6);
+
+    pub const UNIT_BUSY: Refusal = Refusal(7);
+
+    pub const NOTHING_TO_START: Refusal = Refusal(8);
+
+    pub const NOT_RUNNING: Refusal = Refusal(9);
+
+    pub const BAD_STATUS: Refusal = Refusal(10);
+
+    pub const BAD_PATHS: Refusal = Refusal(11);
+
+    pub const MALFORMED: Refusal = Refusal(12);
+
+    pub const NOT_SOUND: Refusal = Refusal(13);
+
+    pub const NOT_WRITABLE: Refusal = Refusal(14);
+
+    pub const NOTHING_TO_CONFIRM: Refusal = Refusal(15);
 }
 
 // The RETURN CODE of a SCSI RESPONSE (003, table 21); of a SCSI STATUS (table 9) the first and the last alone.

@@ -3,7 +3,7 @@ ghost use Rattle.std.specs.Prelude.{◌≡◌, ◌≤◌};
 ghost use Rattle.wire.specs.Fields;
 ghost use Rattle.wire.specs.Messages.{flags_of, row_of, confirm_of, fields_of, read_of, reserved_set};
 
-use crate::codes::{HEADER_LENGTH, Queue, Refusal, SMS_CODE};
+use crate::codes::{Queue, Refusal, SMS_CODE};
 use crate::fields::{byte_at, long, word};
 use crate::tables::{CODES, LENGTHS, MASKS, ROWS, WIDTH};
 
@@ -150,23 +150,22 @@ fn fields_of(m: &[u8], row: usize) -> Message
     }
 }
 
-// The message that the bytes hold, with its fields, or the refusal: where they are too few, with the length needed.
+// The message that the bytes hold, with its fields, or the number of the refusal.
 pub fn read(m: &[u8]) -> Message
     ensures { result ≡ read_of m.now }
 {
-    if m.len() < HEADER_LENGTH as usize {
-        return Message::Refused(Refusal::TooShort(HEADER_LENGTH));
+    if m.len() < 2 {
+        return Message::Refused(Refusal::TOO_SHORT);
     }
     if m[0] != SMS_CODE {
-        return Message::Refused(Refusal::NotHandled);
+        return Message::Refused(Refusal::NOT_HANDLED);
     }
     let row = row_of(m[1]);
     if row == ROWS {
-        return Message::Refused(Refusal::NotHandled);
+        return Message::Refused(Refusal::NOT_HANDLED);
     }
-    let needed = LENGTHS[row];
-    if m.len() < needed as usize {
-        return Message::Refused(Refusal::TooShort(needed));
+    if m.len() < LENGTHS[row] {
+        return Message::Refused(Refusal::TOO_SHORT);
     }
     fields_of(m, row)
 }

@@ -21,7 +21,7 @@ pub(crate) const CODES: [u8; 8] = [
 
 // The minimum length of each row: 11 bytes for a command, whose block rule 2 asks for; the whole table length for the
 // others.
-pub(crate) const LENGTHS: [u8; 8] = [11, 17, 10, 9, 9, 8, 9, 9];
+pub(crate) const LENGTHS: [usize; 8] = [11, 17, 10, 9, 9, 8, 9, 9];
 
 // The reserved bits of the first 17 bytes of each row: a command has bytes 9, 11, 14 and 15, and bits 3 and 2 of byte
 // 10; CONFIRM STATUS bits 6 to 0 of byte 16.
@@ -35,10 +35,5 @@ const NONE: [u8; 17] = [0, 0, 0, 0, 0, 0, 0, 0, 0, 0, 0, 0, 0, 0, 0, 0, 0];
 
 pub(crate) const MASKS: [[u8; 17]; 8] = [COMMAND, CONFIRM, NONE, NONE, NONE, NONE, NONE, NONE];
 
-// Where the command block begins, and the length of a command whose block has its first byte.
-pub(crate) const BLOCK_AT: u8 = 16;
-
-pub(crate) const WITH_OPCODE: u8 = 17;
-
 // The length of a command block by its opcode group, bits 7 to 5 of its first byte; 0 where the group has none.
-pub(crate) const BLOCK_LENGTHS: [u8; 8] = [6, 10, 10, 0, 16, 12, 0, 0];
+pub(crate) const BLOCK_LENGTHS: [usize; 8] = [6, 10, 10, 0, 16, 12, 0, 0];

@@ -1,8 +1,7 @@
--- The five wrong drives do not meet demand 2, by the examples c, e, f and l. Assumes nothing.
+-- The three wrong drives do not meet demand 2, by the examples c, e and f. Assumes nothing.
 use Prim.Native.Nat.{ℕ}
 use mathlib.Core.Path.{◌≡◌, sym, ap, ◌∙◌}
 use mathlib.Core.List.{List, [], map}
-use mathlib.Core.Option.{Option, none}
 use native.Mathlib.Omega.{arith}
 use lib.ListN.{get_or}
 use Rattle.wire.specs.Codes
@@ -11,7 +10,7 @@ use Rattle.plan.specs.declared.Answer.{Answer}
 use Rattle.reply.specs.declared.Reply.TheVariants.{Response, Status}
 use Rattle.plan.specs.declared.Answer.TheVariants.{Ready, Accepted, Reply, Refused}
 use Rattle.engine.specs.Calls.{message_of}
-use Rattle.worked.specs.Examples.{quiet, full, plain, shortened, resumed, unit_reset, again, examples, buffer, got, said}
+use Rattle.worked.specs.Examples.{quiet, full, plain, resumed, again, examples, buffer, got, said}
 use Rattle.worked.specs.Drives.{MessageDrive, MeetsAt, WrongDrives}
 use Rattle.engine.specs.declared.Outcome.{Outcome}
 use Rattle.worked.proofs.Examples.{examples_hold}
@@ -21,20 +20,12 @@ abbrev to : Table → List ℕ → Answer
 to t m = (message_of t m 64).answer
 
 -- the answers of the examples by their place in the table
-row : (k : ℕ) → (get_or (map got examples) k (Ready, (none, []))).0 ≡ (get_or (map said examples) k (Ready, (none, []))).0
-row k = ap (λ (l : List (Answer × (Option ℕ × List ℕ))). (get_or l k (Ready, (none, []))).0) examples_hold
+row : (k : ℕ) → (get_or (map got examples) k (Ready, [])).0 ≡ (get_or (map said examples) k (Ready, [])).0
+row k = ap (λ (l : List (Answer × List ℕ)). (get_or l k (Ready, [])).0) examples_hold
 
 example_c : to quiet plain ≡ Accepted 1
 unfolding examples
 example_c = row 4
-
-example_c_short : to quiet shortened ≡ Refused (Codes.too_short 22)
-unfolding examples
-example_c_short = row 3
-
-example_l_short : to quiet (unit_reset []) ≡ Refused (Codes.too_short 9)
-unfolding examples
-example_l_short = row 15
 
 example_e : to quiet resumed ≡ Reply (Response 5 (Codes.return_code 0xff))
 unfolding examples
@@ -44,7 +35,7 @@ example_f : to full plain ≡ Reply (Status 5 (Codes.status_byte 0x28) Codes.no_
 unfolding examples
 example_f = row 7
 
-example_f_again : to again plain ≡ Refused Codes.discarded
+example_f_again : to again plain ≡ Refused (Codes.refusal 4)
 unfolding examples
 example_f_again = row 8
 
@@ -64,12 +55,7 @@ wrong_drives d = (
       let z : ◌≡◌ {A = ℕ} 0 1 = cc in omega arith,
   λ f stays.
       let same : again ≡ full = sym (ap (λ (o : Outcome). o.table) f.outcome) ∙ stays full plain buffer in
-      let e : Refused Codes.discarded ≡ Reply (Status 5 (Codes.status_byte 0x28) Codes.no_sense) =
+      let e : Refused (Codes.refusal 4) ≡ Reply (Status 5 (Codes.status_byte 0x28) Codes.no_sense) =
       sym example_f_again ∙ ap (λ (t : Table). to t plain) same ∙ example_f in
       let z : ◌≡◌ {A = ℕ} 0 1 = cc in omega arith,
-  λ c received.
-      let e = received quiet shortened buffer 22 (answers d quiet shortened c ∙ example_c_short) in omega (arith, e),
-  λ c l count one.
-      let e = one quiet shortened buffer 22 (answers d quiet shortened c ∙ example_c_short) in
-      let f = one quiet (unit_reset []) buffer 9 (answers d quiet (unit_reset []) l ∙ example_l_short) in omega (arith, e, f),
 )

@@ -1,12 +1,12 @@
--- Page 01's examples, its worked calls, which answers hold the queue, confirmed status, every length one short, what each
--- order ends and says that it ended, computed. Assumes nothing.
+-- Page 01's examples, its worked calls, which answers hold the queue, confirmed status, what each order ends and says
+-- that it ended, computed. Assumes nothing.
 use mathlib.Core.Path.{refl}
 use Rattle.engine.proofs.Computing.{computing as call}
-use Rattle.worked.specs.Examples.{quiet, tasks_from, full, examples, holdings, running, waits, underway, unconfirmed, again8, confirmations, just_enough, shared, orders, busy, ExamplesHold, WorkedCalls, ClearedCalls, HoldingsHold, AgainPasses, RunsOn, ConfirmationsHold, ConfirmedCalls, JustEnoughHolds, OrdersEnd, OrdersSay}
+use Rattle.worked.specs.Examples.{quiet, tasks_from, full, examples, holdings, running, waits, underway, unconfirmed, again8, confirmations, shared, orders, busy, ExamplesHold, WorkedCalls, ClearedCalls, HoldingsHold, AgainPasses, RunsOn, ConfirmationsHold, ConfirmedCalls, OrdersEnd, OrdersSay}
 
 -- the definitions of the calls and of the examples
 unfoldable computing : Unit {0}
-unfolding call quiet tasks_from full examples holdings running waits underway unconfirmed again8 confirmations just_enough shared orders busy
+unfolding call quiet tasks_from full examples holdings running waits underway unconfirmed again8 confirmations shared orders busy
 computing = tt
 
 pub examples_hold : ExamplesHold
@@ -40,10 +40,6 @@ confirmations_hold = refl
 pub confirmed_calls : ConfirmedCalls
 unfolding computing
 confirmed_calls = refl
-
-pub just_enough_hold : JustEnoughHolds
-unfolding computing
-just_enough_hold = (refl, refl)
 
 pub orders_end : OrdersEnd
 unfolding computing

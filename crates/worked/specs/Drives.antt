@@ -1,12 +1,11 @@
--- Wrong drives: what a drive answers to a message, when it meets demand 2, and five that do not.
-use Rattle.std.specs.Prelude.{ℕ, ◌≡◌, List, [], length}
-use Rattle.wire.specs.Codes
+-- Wrong drives: what a drive answers to a message, when it meets demand 2, and three that do not.
+use Rattle.std.specs.Prelude.{ℕ, ◌≡◌, List}
 use Rattle.wire.specs.declared.codes.Refusal.{Refusal}
 use Rattle.table.specs.declared.Table.{Table}
 use Rattle.plan.specs.declared.Answer.{Answer}
 use Rattle.plan.specs.declared.Answer.TheVariants as answer
 use Rattle.engine.specs.Calls.{MessageContract}
-use Rattle.worked.specs.Examples.{quiet, full, plain, shortened, resumed, unit_reset, buffer}
+use Rattle.worked.specs.Examples.{quiet, full, plain, resumed, buffer}
 use Rattle.engine.specs.declared.Outcome.{Outcome}
 
 -- for a table, a message and a reply buffer: the outcome, and the buffer as it is left
@@ -30,20 +29,9 @@ AnswersOne d a = (t : Table) (m buf : List ℕ) → (d.outcome t m buf).answer �
 abbrev pub NeverTouches : MessageDrive → Type 0
 NeverTouches d = (t : Table) (m buf : List ℕ) → (d.outcome t m buf).table ≡ t
 
--- beside refusal 1 it names the length that was received
-abbrev pub NamesReceived : MessageDrive → Type 0
-NamesReceived d = (t : Table) (m buf : List ℕ) (n : ℕ) → (d.outcome t m buf).answer ≡ answer.Refused (Codes.too_short n) → n ≡ length m
-
--- it names one count for all
-abbrev pub NamesOne : MessageDrive → ℕ → Type 0
-NamesOne d count = (t : Table) (m buf : List ℕ) (n : ℕ) → (d.outcome t m buf).answer ≡ answer.Refused (Codes.too_short n) → n ≡ count
-
--- none of them meets demand 2: the first not at example c, the second not at both c and e, the third not at f, the
--- fourth not at the short message of c, the fifth not at those of both c and l
+-- none of them meets demand 2: the first not at example c, the second not at both c and e, the third not at f
 abbrev pub WrongDrives : Type 0
 WrongDrives = (d : MessageDrive)
     → (MeetsAt d quiet plain → RefusesAll d → ⊥)
     × (MeetsAt d quiet plain → MeetsAt d quiet resumed → (a : Answer) → AnswersOne d a → ⊥)
     × (MeetsAt d full plain → NeverTouches d → ⊥)
-    × (MeetsAt d quiet shortened → NamesReceived d → ⊥)
-    × (MeetsAt d quiet shortened → MeetsAt d quiet (unit_reset []) → (count : ℕ) → NamesOne d count → ⊥)

@@ -1,11 +1,8 @@
--- Page 01's proved examples a to l as one table, with the byte counts of M-106, its worked calls as page 02's M-103 has
--- them, which answers hold the queue as another table, confirmed status as a third, every length one short as a fourth,
--- and what each order ends. Paths 1 and 2, mask 01h, no attention, nothing live unless said; tag 0005h, path 1, kind 3,
--- zero CDB.
-use Rattle.std.specs.Prelude.{ℕ, zero, suc, ◌+◌, ◌-◌, ◌^◌, ◌≡◌, Bool, true, false, List, [], ◌∷◌, map, replicate, length, take}
-use Rattle.std.proofs.Math.Option.{Option, none, some}
+-- Page 01's proved examples a to l as one table, its worked calls as page 02's M-103 has them, which answers hold the
+-- queue as another table, confirmed status as a third, and what each order ends. Paths 1 and 2, mask 01h, no attention,
+-- nothing live unless said; tag 0005h, path 1, kind 3, zero CDB.
+use Rattle.std.specs.Prelude.{ℕ, zero, suc, ◌+◌, ◌-◌, ◌^◌, ◌≡◌, Bool, true, false, List, [], ◌∷◌, map, replicate}
 use Rattle.wire.specs.Codes
-use Rattle.wire.specs.declared.codes.Refusal.{Refusal}
 use Rattle.reply.specs.Calls.{placed}
 use Rattle.task.specs.Tasks.{no_task, accepted_as}
 use Rattle.task.specs.declared.Task.{Task}
@@ -20,7 +17,6 @@ use Rattle.table.specs.declared.Aca.{Aca}
 use Rattle.table.specs.declared.Aca.TheVariants.{Clear, Owned}
 use Rattle.table.specs.declared.Attention.{Attention}
 use Rattle.table.specs.declared.Attention.TheVariants as attention
-use Rattle.plan.specs.Plans.{answer_number}
 use Rattle.plan.specs.declared.Answer.{Answer}
 use Rattle.reply.specs.declared.Reply.TheVariants.{Response, Status, Invalid}
 use Rattle.plan.specs.declared.Answer.TheVariants.{Accepted, Reply, Started, Confirmed, Restarted, Refused}
@@ -60,50 +56,36 @@ command path lun flags spare cdb =
 abbrev pub zeros : List ℕ
 zeros = replicate 6 0
 
--- the command with nothing else said; its block cut by one byte; the same with RESUME
+-- the command with nothing else said, and the same with RESUME
 abbrev pub plain : List ℕ
 plain = command 1 0 3 0 zeros
-
-abbrev pub shortened : List ℕ
-shortened = command 1 0 3 0 (replicate 5 0)
 
 abbrev pub resumed : List ℕ
 resumed = command 1 0 0x23 0 zeros
 
--- an order with tag 0005h: S3P CODE, path, then LUN or TAG 2
-abbrev pub order : ℕ → ℕ → List ℕ → List ℕ
-order code path rest = 0x83 ∷ code ∷ 0 ∷ 5 ∷ 0 ∷ 0 ∷ 0 ∷ path ∷ rest
-
 abbrev pub unit_reset : List ℕ → List ℕ
-unit_reset lun = order 0x35 1 lun
+unit_reset lun = 0x83 ∷ 0x35 ∷ 0 ∷ 5 ∷ 0 ∷ 0 ∷ 0 ∷ 1 ∷ lun
 
--- what a message is answered, page 01's number where that is a refusal, and the bytes of the reply, none where the answer
--- is no reply
+-- what a message is answered, and the bytes of the reply, none where the answer is no reply
 pub record Example : Type 0 where
   pub table : Table
   pub message : List ℕ
   pub answer : Answer
-  pub number : Option ℕ
   pub reply : List ℕ
 
 -- an answer with no reply
 abbrev pub silent : Table → List ℕ → Answer → Example
-silent t m a = record { table = t; message = m; answer = a; number = none; reply = [] }
+silent t m a = record { table = t; message = m; answer = a; reply = [] }
 
--- a refusal, by its number
-abbrev pub refuses : Table → List ℕ → ℕ → Refusal → Example
-refuses t m n r = record { table = t; message = m; answer = Refused r; number = some n; reply = [] }
-
--- refusal 1, with the byte count that the check needed
-abbrev pub short : Table → List ℕ → ℕ → Example
-short t m needed = refuses t m 1 (Codes.too_short needed)
+abbrev pub refuses : Table → List ℕ → ℕ → Example
+refuses t m n = silent t m (Refused (Codes.refusal n))
 
 abbrev pub accept : Table → List ℕ → ℕ → Example
 accept t m arrival = silent t m (Accepted arrival)
 
 -- RESPONSE to tag 0005h
 abbrev pub response : Table → List ℕ → ℕ → Example
-response t m code = record { table = t; message = m; answer = Reply (Response 5 (Codes.return_code code)); number = none; reply = 0x83 ∷ 0x03 ∷ 0x00 ∷ 0x05 ∷ code ∷ [] }
+response t m code = record { table = t; message = m; answer = Reply (Response 5 (Codes.return_code code)); reply = 0x83 ∷ 0x03 ∷ 0x00 ∷ 0x05 ∷ code ∷ [] }
 
 -- STATUS to tag 0005h: without sense, and 02h with sense key and code
 abbrev pub status : Table → List ℕ → ℕ → Example
@@ -111,7 +93,6 @@ status t m byte = record {
   table = t;
   message = m;
   answer = Reply (Status 5 (Codes.status_byte byte) Codes.no_sense);
-  number = none;
   reply = 0x83 ∷ 0x11 ∷ 0x00 ∷ 0x05 ∷ byte ∷ replicate 21 0;
 }
 
@@ -120,13 +101,12 @@ check t m key code = record {
   table = t;
   message = m;
   answer = Reply (Status 5 (Codes.status_byte 0x02) (Codes.sense key code 0x00));
-  number = none;
   reply = 0x83 ∷ 0x11 ∷ 0x00 ∷ 0x05 ∷ 0x02 ∷ 0 ∷ 0 ∷ 0 ∷ 0x70 ∷ 0 ∷ key ∷ 0 ∷ 0 ∷ 0 ∷ 0 ∷ 0x0a ∷ 0 ∷ 0 ∷ 0 ∷ 0 ∷ code ∷ 0 ∷ 0 ∷ 0 ∷ 0 ∷ 0 ∷ [];
 }
 
 -- STATUS 00h with RETURN CODE FFh to tag 0005h
 abbrev pub invalid : Table → List ℕ → Example
-invalid t m = record { table = t; message = m; answer = Reply (Invalid 5); number = none; reply = 0x83 ∷ 0x11 ∷ 0x00 ∷ 0x05 ∷ 0x00 ∷ 0x00 ∷ 0xff ∷ replicate 19 0 }
+invalid t m = record { table = t; message = m; answer = Reply (Invalid 5); reply = 0x83 ∷ 0x11 ∷ 0x00 ∷ 0x05 ∷ 0x00 ∷ 0x00 ∷ 0xff ∷ replicate 19 0 }
 
 -- the full table, after its command was answered
 abbrev pub again : Table
@@ -134,22 +114,22 @@ again = (message_of full plain 64).table
 
 unfoldable pub examples : List Example
 examples =
-    short quiet [] 2  -- a
-    ∷ short quiet (0x83 ∷ []) 2
-    ∷ refuses quiet (0x84 ∷ 0x10 ∷ []) 2 Codes.not_handled  -- b
-    ∷ short quiet shortened 22  -- c
+    refuses quiet [] 1  -- a
+    ∷ refuses quiet (0x83 ∷ []) 1
+    ∷ refuses quiet (0x84 ∷ 0x10 ∷ []) 2  -- b
+    ∷ refuses quiet (command 1 0 3 0 (replicate 5 0)) 1  -- c
     ∷ accept quiet plain 1
-    ∷ refuses quiet (command 9 0 3 0 zeros) 3 Codes.unknown_path  -- d
+    ∷ refuses quiet (command 9 0 3 0 zeros) 3  -- d
     ∷ response quiet resumed 0xff  -- e
     ∷ status full plain 0x28  -- f
-    ∷ refuses again plain 4 Codes.discarded
+    ∷ refuses again plain 4
     ∷ response quiet (command 1 0 3 1 zeros) 0xff  -- g
     ∷ check quiet (command 1 7 3 0 zeros) 0x05 0x25  -- h
     ∷ check quiet (command 1 0 3 0 (0x60 ∷ [])) 0x05 0x20  -- i
     ∷ response (accepted quiet 0 5 0 Simple End) plain 0x04  -- j
     ∷ accept (accepted quiet 1 5 0 Simple End) plain 2
     ∷ check quiet (command 1 0 0 0 zeros) 0x05 0x49  -- k
-    ∷ short quiet (unit_reset []) 9  -- l
+    ∷ refuses quiet (unit_reset []) 1  -- l
     ∷ response quiet (unit_reset (0 ∷ [])) 0x00
     ∷ response quiet (unit_reset (7 ∷ [])) 0xff
     ∷ []
@@ -158,12 +138,12 @@ examples =
 abbrev pub buffer : List ℕ
 buffer = replicate 64 0xaa
 
--- the answer to an example's message, its number as a refusal and the buffer as it is left; and as page 01 says them
-abbrev pub got : Example → Answer × (Option ℕ × List ℕ)
-got e = let a = (message_of e.table e.message 64).answer in (a, (answer_number a, replied a buffer))
+-- the answer to an example's message and the buffer as it is left; and as page 01 says them
+abbrev pub got : Example → Answer × List ℕ
+got e = ((message_of e.table e.message 64).answer, replied (message_of e.table e.message 64).answer buffer)
 
-abbrev pub said : Example → Answer × (Option ℕ × List ℕ)
-said e = (e.answer, (e.number, placed e.reply buffer))
+abbrev pub said : Example → Answer × List ℕ
+said e = (e.answer, placed e.reply buffer)
 
 abbrev pub ExamplesHold : Type 0
 ExamplesHold = map got examples ≡ map said examples
@@ -197,8 +177,8 @@ answers_from o = map (λ (x : Outcome). x.answer) (let t = o.table in o ∷ seco
 abbrev pub WorkedCalls : Type 0
 WorkedCalls =
     answers_from worked1
-    ≡ Reply (Status 5 (Codes.status_byte 0x02) (Codes.sense 0x06 0x29 0x00)) ∷ Reply (Status 6 (Codes.status_byte 0x30) Codes.no_sense) ∷ Refused Codes.nothing_to_start ∷ Refused Codes.not_running
-    ∷ Refused Codes.not_running ∷ []
+    ≡ Reply (Status 5 (Codes.status_byte 0x02) (Codes.sense 0x06 0x29 0x00)) ∷ Reply (Status 6 (Codes.status_byte 0x30) Codes.no_sense) ∷ Refused (Codes.refusal 8) ∷ Refused (Codes.refusal 9)
+    ∷ Refused (Codes.refusal 9) ∷ []
 
 -- the same with CLEAR ACA, tag 0007h, after the first command: the second is accepted, started and finished
 abbrev pub clearing : Outcome
@@ -207,7 +187,7 @@ clearing = message_of worked1.table (0x83 ∷ 0x34 ∷ 0 ∷ 7 ∷ 0 ∷ 0 ∷ 0
 abbrev pub ClearedCalls : Type 0
 ClearedCalls =
     answers_from clearing
-    ≡ Reply (Response 7 (Codes.return_code 0x00)) ∷ Accepted 1 ∷ Started 0 1 ∷ Reply (Status 6 (Codes.status_byte 0x00) Codes.no_sense) ∷ Refused Codes.not_running ∷ []
+    ≡ Reply (Response 7 (Codes.return_code 0x00)) ∷ Accepted 1 ∷ Started 0 1 ∷ Reply (Status 6 (Codes.status_byte 0x00) Codes.no_sense) ∷ Refused (Codes.refusal 9) ∷ []
 
 -- ---- which answers hold the queue
 
@@ -275,19 +255,19 @@ holdings =
     ∷ row (check quiet (command 1 7 3 0 zeros) 0x05 0x25) Clear (listed 1)  -- 6
     ∷ row (status full plain 0x28) Clear (first true attention.Nothing)  -- 1: 28h
     ∷ row (response quiet resumed 0xff) Clear (listed 1)  -- 1: FFh
-    ∷ row (refuses (quiet_with (first true attention.Nothing) Clear) plain 4 Codes.discarded) Clear (first true attention.Nothing)  -- 1: 4
-    ∷ row (short quiet shortened 22) Clear (listed 1)  -- 2
+    ∷ row (refuses (quiet_with (first true attention.Nothing) Clear) plain 4) Clear (first true attention.Nothing)  -- 1: 4
+    ∷ row (refuses quiet (command 1 0 3 0 (replicate 5 0)) 1) Clear (listed 1)  -- 2
     ∷ row (response quiet (command 1 0 3 1 zeros) 0xff) Clear (listed 1)  -- 3
     ∷ row (invalid quiet (command 1 0 0x53 0 zeros)) Clear (listed 1)  -- 4
     ∷ row (response (accepted quiet 0 5 0 Simple End) plain 0x04) Clear (listed 1)  -- 5
     ∷ row (accept quiet plain 1) Clear (listed 1)  -- 11
     ∷ []
 
-abbrev pub after : Hold → (Answer × (Option ℕ × List ℕ)) × (List unit.Unit × path.Path)
+abbrev pub after : Hold → (Answer × List ℕ) × (List unit.Unit × path.Path)
 after h = let t = (message_of h.example.table h.example.message 64).table in (got h.example, (t.units, path_at t 0))
 
 -- no other unit has an ACA
-abbrev pub expected : Hold → (Answer × (Option ℕ × List ℕ)) × (List unit.Unit × path.Path)
+abbrev pub expected : Hold → (Answer × List ℕ) × (List unit.Unit × path.Path)
 expected h = (said h.example, (record { aca = h.aca } ∷ replicate 7 no_unit, h.sender))
 
 abbrev pub HoldingsHold : Type 0
@@ -355,14 +335,14 @@ confirmations =
     invalid quiet contradicting
     ∷ accept quiet confirming 1
     ∷ response unconfirmed confirming 0x04  -- a task that waits to be confirmed is live
-    ∷ short unconfirmed (confirm 1 1 0 []) 17
-    ∷ refuses unconfirmed (confirm 9 1 0 (0x80 ∷ [])) 3 Codes.unknown_path
+    ∷ refuses unconfirmed (confirm 1 1 0 []) 1  -- 16 bytes
+    ∷ refuses unconfirmed (confirm 9 1 0 (0x80 ∷ [])) 3
     ∷ response unconfirmed (confirm 1 1 0 (0x81 ∷ [])) 0xff  -- a reserved bit
     ∷ response quiet (confirm 1 1 0 (0x40 ∷ [])) 0xff  -- before 15
-    ∷ refuses quiet (confirm 1 1 0 (0x80 ∷ [])) 15 Codes.nothing_to_confirm
-    ∷ refuses waits (confirm 1 1 0 (0x80 ∷ [])) 15 Codes.nothing_to_confirm  -- it waits to start
-    ∷ refuses underway (confirm 1 1 0 (0x80 ∷ [])) 15 Codes.nothing_to_confirm  -- it runs
-    ∷ refuses unconfirmed (confirm 2 2 0 (0x80 ∷ [])) 15 Codes.nothing_to_confirm  -- the tag of another path
+    ∷ refuses quiet (confirm 1 1 0 (0x80 ∷ [])) 15
+    ∷ refuses waits (confirm 1 1 0 (0x80 ∷ [])) 15  -- it waits to start
+    ∷ refuses underway (confirm 1 1 0 (0x80 ∷ [])) 15  -- it runs
+    ∷ refuses unconfirmed (confirm 2 2 0 (0x80 ∷ [])) 15  -- the tag of another path
     ∷ silent unconfirmed (confirm 1 1 0xff (0x80 ∷ [])) (Confirmed 1)
     ∷ silent unconfirmed (confirm 1 2 0 (0x80 ∷ [])) (Confirmed 1)  -- NEW RETURN PATH ID is not looked at
     ∷ silent unconfirmed (confirm 1 1 16 (0 ∷ [])) (Restarted 1)
@@ -377,39 +357,7 @@ ConfirmationsHold = map got confirmations ≡ map said confirmations
 abbrev pub ConfirmedCalls : Type 0
 ConfirmedCalls =
     map (λ (o : Outcome). o.answer) (start_of unconfirmed 0 ∷ finish_of unconfirmed 1 Codes.good Codes.no_sense 16 64 ∷ start_of again8 0 ∷ [])
-    ≡ Started 0 2 ∷ Refused Codes.not_running ∷ Started 8 1 ∷ []
-
--- ---- every length one short (page 02, M-106)
-
--- each count that a check needs, as a message with just that many bytes, and what that is answered
-unfoldable pub just_enough : List Example
-just_enough =
-    short quiet (0x83 ∷ 0x10 ∷ []) 11  -- 2
-    ∷ short quiet (0x83 ∷ 0x10 ∷ 0 ∷ 5 ∷ 0 ∷ 0 ∷ 0 ∷ 1 ∷ 0 ∷ 0 ∷ 3 ∷ []) 17  -- 11
-    ∷ short quiet (command 1 0 3 0 (0 ∷ [])) 22  -- 17, so that byte 16 is there
-    ∷ check quiet (command 1 0 3 0 (0x60 ∷ [])) 0x05 0x20
-    ∷ check quiet (command 1 0 3 0 (0xc0 ∷ [])) 0x05 0x20
-    ∷ check quiet (command 1 0 3 0 (0xe0 ∷ [])) 0x05 0x20
-    ∷ accept quiet plain 1  -- 16 plus the length of the block: 6, 10, 10, 16, 12
-    ∷ accept quiet (command 1 0 3 0 (0x28 ∷ replicate 9 0)) 1
-    ∷ accept quiet (command 1 0 3 0 (0x40 ∷ replicate 9 0)) 1
-    ∷ accept quiet (command 1 0 3 0 (0x88 ∷ replicate 15 0)) 1
-    ∷ accept quiet (command 1 0 3 0 (0xa8 ∷ replicate 11 0)) 1
-    ∷ refuses quiet (confirm 1 1 0 (0x80 ∷ [])) 15 Codes.nothing_to_confirm  -- 17
-    ∷ response quiet (order 0x30 1 (0 ∷ 5 ∷ [])) 0x01  -- 10
-    ∷ response quiet (order 0x31 1 (0 ∷ [])) 0x00  -- 9
-    ∷ response quiet (order 0x32 1 (0 ∷ [])) 0x00  -- 9
-    ∷ response quiet (order 0x33 1 []) 0x00  -- 8
-    ∷ response quiet (order 0x34 1 (0 ∷ [])) 0x20  -- 9
-    ∷ response quiet (order 0x35 1 (0 ∷ [])) 0x00  -- 9
-    ∷ []
-
--- the same with one byte fewer: it is refused by 1 with the count that it had
-abbrev pub one_fewer : Example → Example
-one_fewer e = short e.table (take (length e.message - 1) e.message) (length e.message)
-
-abbrev pub JustEnoughHolds : Type 0
-JustEnoughHolds = (map got just_enough ≡ map said just_enough) × (map got (map one_fewer just_enough) ≡ map said (map one_fewer just_enough))
+    ≡ Started 0 2 ∷ Refused (Codes.refusal 9) ∷ Started 8 1 ∷ []
 
 -- ---- what an order ends
 
@@ -429,18 +377,21 @@ owned = record {
 unfoldable pub shared : Table
 shared = finished (started (accepted (accepted (accepted owned 0 5 0 Simple End) 1 5 0 Simple Confirm) 1 6 1 kind.Aca End) 1) 1 false 16
 
--- the orders of path 2
+-- an order of path 2: S3P CODE, then LUN or TAG 2
+abbrev pub order : ℕ → List ℕ → List ℕ
+order code rest = 0x83 ∷ code ∷ 0 ∷ 9 ∷ 0 ∷ 0 ∷ 0 ∷ 2 ∷ rest
+
 unfoldable pub orders : List (List ℕ)
 orders =
-    order 0x30 2 (0 ∷ 5 ∷ [])
-    ∷ order 0x30 2 (0 ∷ 6 ∷ [])
-    ∷ order 0x30 2 (0 ∷ 7 ∷ [])
-    ∷ order 0x31 2 (0 ∷ [])
-    ∷ order 0x32 2 (0 ∷ [])
-    ∷ order 0x34 2 (0 ∷ [])
-    ∷ order 0x34 2 (1 ∷ [])
-    ∷ order 0x35 2 (0 ∷ [])
-    ∷ order 0x33 2 []
+    order 0x30 (0 ∷ 5 ∷ [])
+    ∷ order 0x30 (0 ∷ 6 ∷ [])
+    ∷ order 0x30 (0 ∷ 7 ∷ [])
+    ∷ order 0x31 (0 ∷ [])
+    ∷ order 0x32 (0 ∷ [])
+    ∷ order 0x34 (0 ∷ [])
+    ∷ order 0x34 (1 ∷ [])
+    ∷ order 0x35 (0 ∷ [])
+    ∷ order 0x33 []
     ∷ []
 
 -- ABORT TASK of its own tag 5, 6 and of none; ABORT TASK SET and CLEAR TASK SET on unit 0; CLEAR ACA on units 0 and

@@ -4,9 +4,6 @@ use Rattle.reply.proofs.Cases.{read_cases}
 use Rattle.reply.proofs.read.Statement.{statement}
 use Rattle.reply.proofs.read.Tie as tie
 
-cast-if1 : tie.Need-overflow-cast-if1
-cast-if1 c = search rules
-
 returns : tie.Need-returns
 returns c = search read_cases
 
@@ -19,9 +16,6 @@ returns-2 c = search read_cases
 shared-slice-read-code : tie.Need-shared-slice-read-code
 shared-slice-read-code c = search rules
 
-cast-t13 : tie.Need-overflow-cast-t13
-cast-t13 c = search rules
-
 returns-3 : tie.Need-returns-3
 returns-3 c = search read_cases
 
@@ -33,9 +27,6 @@ fit-requires c κs = search rules
 
 returns-4 : tie.Need-returns-4
 returns-4 c = search read_cases
-
-cast-t18 : tie.Need-overflow-cast-t18
-cast-t18 c = search rules
 
 returns-5 : tie.Need-returns-5
 returns-5 c = search read_cases
@@ -56,17 +47,14 @@ pub read_spec : {M : Type 1} → statement M
 read_spec =
     tie.close
     (tie.spec
-    cast-if1
     returns
     shared-slice-read-if2
     returns-2
     shared-slice-read-code
-    cast-t13
     returns-3
     as-response-requires
     fit-requires
     returns-4
-    cast-t18
     returns-5
     as-status-requires
     fit-requires-2

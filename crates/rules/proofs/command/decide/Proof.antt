@@ -35,8 +35,8 @@ returns-3 c = search first_cases depth 20
 cut-short-requires : tie.Need-cut-short-requires
 cut-short-requires c κs = search rules
 
-too-short-requires : tie.Need-too-short-requires
-too-short-requires c κs = search rules
+refuse-requires-2 : tie.Need-refuse-requires-2
+refuse-requires-2 c κs = search rules
 
 returns-4 : tie.Need-returns-4
 unfolding command_rules room_rules
@@ -62,7 +62,7 @@ decide-spec =
     report-requires
     returns-3
     cut-short-requires
-    too-short-requires
+    refuse-requires-2
     returns-4
     by-fields-requires
     returns-5)

@@ -62,8 +62,14 @@ push-word-requires c κs = search rules
 enum-known-a-6 : tie.Need-enum-known-a-6
 enum-known-a-6 c = search rules
 
-push-refusal-requires : tie.Need-push-refusal-requires
-push-refusal-requires c κs = search rules
+slice-aggregate-push-number-5 : tie.Need-slice-aggregate-push-number-5
+slice-aggregate-push-number-5 c = search rules
+
+cast-push-number : tie.Need-overflow-cast-push-number
+cast-push-number c = search rules
+
+push-number-requires-5 : tie.Need-push-number-requires-5
+push-number-requires-5 c κs = search rules
 
 returns : tie.Need-returns
 unfolding answer_text push_all
@@ -120,7 +126,9 @@ push-answer-spec =
     slice-aggregate-push-word
     push-word-requires
     enum-known-a-6
-    push-refusal-requires
+    slice-aggregate-push-number-5
+    cast-push-number
+    push-number-requires-5
     returns
     returns-2
     returns-3

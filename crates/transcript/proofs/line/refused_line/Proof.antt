@@ -1,5 +1,5 @@
 -- `transcript::line::refused_line` meets its contract. Assumes nothing.
-use Rattle.transcript.specs.Lines.{decimal_in, count_text, refusal_text}
+use Rattle.transcript.specs.Lines.{decimal_in}
 use Rattle.transcript.proofs.Lines.{line_cases}
 use borrow.Author.Rules.{rules}
 use Rattle.transcript.proofs.line.refused_line.Statement.{statement}
@@ -15,7 +15,7 @@ push-word-requires : tie.Need-push-word-requires
 push-word-requires c κs = search rules
 
 returns : tie.Need-returns
-unfolding decimal_in count_text refusal_text
+unfolding decimal_in
 returns c = search line_cases
 
 pub refused-line-spec : {M : Type 1} → statement M

@@ -4,29 +4,23 @@ use Rattle.wire.proofs.Blocks.{block_cases}
 use Rattle.wire.proofs.block.command_block.Statement.{statement}
 use Rattle.wire.proofs.block.command_block.Tie as tie
 
-cast-if1 : tie.Need-overflow-cast-if1
-cast-if1 c = search rules
-
 slice-aggregate-result : tie.Need-slice-aggregate-result
 slice-aggregate-result c = search rules
 
 returns : tie.Need-returns
 returns c = search block_cases
 
-end-requires : tie.Need-end-requires
-end-requires c κs = search rules
+length-requires : tie.Need-length-requires
+length-requires c κs = search rules
 
-cast-end : tie.Need-overflow-cast-end
-cast-end c = search rules
+add-end : tie.Need-overflow-add-end
+add-end c = search block_cases
 
 slice-aggregate-result-2 : tie.Need-slice-aggregate-result-2
 slice-aggregate-result-2 c = search rules
 
 returns-2 : tie.Need-returns-2
 returns-2 c = search block_cases
-
-cast-result : tie.Need-overflow-cast-result
-cast-result c = search rules
 
 sub-result : tie.Need-overflow-sub-result
 sub-result c = search rules
@@ -44,14 +38,12 @@ pub command-block-spec : {M : Type 1} → statement M
 command-block-spec =
     tie.close
     (tie.spec
-    cast-if1
     slice-aggregate-result
     returns
-    end-requires
-    cast-end
+    length-requires
+    add-end
     slice-aggregate-result-2
     returns-2
-    cast-result
     sub-result
     part-result-start
     part-result-end

@@ -10,9 +10,6 @@ length-requires c κs = search rules
 returns : tie.Need-returns
 returns c = search block_cases
 
-cast-byte-at : tie.Need-overflow-cast-byte-at
-cast-byte-at c = search rules
-
 add-byte-at : tie.Need-overflow-add-byte-at
 add-byte-at c = search block_cases
 
@@ -24,4 +21,4 @@ returns-2 c = search block_cases
 
 pub is-linked-spec : {M : Type 1} → statement M
 is-linked-spec =
-    tie.close (tie.spec length-requires returns cast-byte-at add-byte-at byte-at-requires returns-2)
+    tie.close (tie.spec length-requires returns add-byte-at byte-at-requires returns-2)

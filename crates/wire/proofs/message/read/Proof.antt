@@ -1,11 +1,9 @@
 -- `wire::message::read` meets its contract. Assumes nothing.
-use borrow.Author.Rules.{rules}
+use borrow.Author.Rules.{rules, scaled_Fits}
 use Rattle.wire.proofs.Rows.{read_cases}
+use Rattle.wire.specs.Messages.{rows}
 use Rattle.wire.proofs.message.read.Statement.{statement}
 use Rattle.wire.proofs.message.read.Tie as tie
-
-cast-if1 : tie.Need-overflow-cast-if1
-cast-if1 c = search rules
 
 returns : tie.Need-returns
 returns c = search read_cases
@@ -25,11 +23,11 @@ row-of-requires c κs = search rules
 returns-3 : tie.Need-returns-3
 returns-3 c = search read_cases
 
-array-read-needed : tie.Need-array-read-needed
-array-read-needed c = search read_cases
+mul-if4 : tie.Need-overflow-mul-if4
+mul-if4 c = scaled_Fits _ rows 8 (search read_cases) (search rules)
 
-cast-if4 : tie.Need-overflow-cast-if4
-cast-if4 c = search read_cases
+array-read-if4 : tie.Need-array-read-if4
+array-read-if4 c = search read_cases
 
 returns-4 : tie.Need-returns-4
 returns-4 c = search read_cases
@@ -44,15 +42,14 @@ pub read_spec : {M : Type 1} → statement M
 read_spec =
     tie.close
     (tie.spec
-    cast-if1
     returns
     shared-slice-read-if2
     returns-2
     shared-slice-read-row-of
     row-of-requires
     returns-3
-    array-read-needed
-    cast-if4
+    mul-if4
+    array-read-if4
     returns-4
     fields-of-requires
     returns-5)
