@@ -11,7 +11,7 @@ use native.Mathlib.Omega.{arith}
 use lib.ListN.{length, get_or}
 use lib.Dec.{eqb}
 use lib.Pow.{pow_pos}
-use borrow.Author.Tests.{eq-eqb, eqb-true, not_true}
+use borrow.Author.Tests.{eq-eqb, eqb-true, not-true}
 use Rattle.reply.specs.declared.Reply.{Reply}
 use Rattle.reply.specs.declared.Reply.TheVariants as reply
 use Rattle.task.specs.Map.{is_live, gone}
@@ -115,7 +115,7 @@ module _ (ev : Event) (t : Table) (o : Outcome) (left : List ℕ) (x : Made Engi
   -- a bit that is set: the record was live, and is not
   bit_set : (i : ℕ) → is_live o.ended i ≡ true → (i < 64) × (at t i ≡ some (task_at t i)) × (at u i ≡ none)
   bit_set i e = elim (lt_or_le i 64) [
-    | inl l ↦ let b = both (is_live t.live i) (not (is_live u.live i)) (sym (bit i l) ∙ e) in (l, at_live t i b.0, at_dead u i (not_true _ b.1))
+    | inl l ↦ let b = both (is_live t.live i) (not (is_live u.live i)) (sym (bit i l) ∙ e) in (l, at_live t i b.0, at_dead u i (not-true _ b.1))
     | inr l ↦ absurd (never e (dead_past 64 o.ended i ended_lt l))
   ]
 

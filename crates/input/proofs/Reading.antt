@@ -6,7 +6,7 @@ use mathlib.Core.Bool.{Bool, true, false, cond, not}
 use mathlib.Core.List.{List}
 use lib.Dec.{ltb}
 use native.Mathlib.Omega.{arith}
-use borrow.Author.Tests.{not_true, not-false}
+use borrow.Author.Tests.{not-true, not-false}
 use Rattle.task.proofs.Ways.{cond_below, cond_past, ways}
 use Rattle.input.specs.Numbers.{number_at, byte_at, id_at, given}
 use Rattle.input.specs.Events.{finish_at}
@@ -81,7 +81,7 @@ pub ruleset ids_cases = (no_more, bad_id, next_id)
 module _ (s : List ℕ) (count : ℕ) {ids got : Ids} {x : Header} (e : ids ≡ got) where
   pub bad_ids : not ids.ok ≡ true → x ≡ no_header → x ≡ after_ids s count got
   unfolding after_ids
-  bad_ids h p = p ∙ rw (← e, not_true ids.ok h)
+  bad_ids h p = p ∙ rw (← e, not-true ids.ok h)
 
   pub good_ids :
       not ids.ok ≡ false

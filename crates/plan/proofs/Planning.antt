@@ -4,7 +4,7 @@ use Prim.Native.Nat.{ℕ, ◌<◌, ◌≤◌}
 use mathlib.Core.Path.{◌≡◌, ◌∙◌}
 use mathlib.Core.Bool.{Bool, true, false, not}
 use mathlib.Core.List.{List}
-use borrow.Author.Tests.{not_true, not-false, lt-ltb, le-ltb, eq-eqb, ne_eqb}
+use borrow.Author.Tests.{not-true, not-false, lt-ltb, le-ltb, eq-eqb, ne_eqb}
 use Rattle.wire.specs.Codes
 use Rattle.wire.specs.Messages.{reserved_set}
 use Rattle.wire.specs.declared.codes.Queue.{Queue}
@@ -140,7 +140,7 @@ pub ruleset order_cases = (done, not_done)
 -- whether a task was picked that waits to be confirmed
 module _ (own : Pick) where
   pub none_picked : not own.found ≡ true → false ≡ is_awaited own
-  none_picked h = rw (not_true own.found h)
+  none_picked h = rw (not-true own.found h)
 
   module _ (h : not own.found ≡ false) where
     pub still_waits : own.task.phase ≡ phase.Waiting → false ≡ is_awaited own

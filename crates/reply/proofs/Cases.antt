@@ -7,7 +7,7 @@ use mathlib.Core.List.{List, [], ◌∷◌, ◌++◌}
 use lib.ListN.{length, take, drop, replicate}
 use lib.Seq.{take-length}
 use lib.Dec.{leb, ltb, eqb}
-use borrow.Author.Tests.{not_true, not-false, le-ltb, lt-ltb, ltb-false, eq-eqb, ne_eqb, eqb-true, eqb-false}
+use borrow.Author.Tests.{not-true, not-false, le-ltb, lt-ltb, ltb-false, eq-eqb, ne_eqb, eqb-true, eqb-false}
 use Rattle.wire.specs.Codes.{too_short, not_handled, small_buffer, not_writable, reply_room, sms_code, scsi_response, scsi_status}
 use Rattle.wire.specs.Codes.{invalid_field, check_condition, status_byte, sense}
 use Rattle.wire.specs.Fields.{byte, joined}
@@ -87,7 +87,7 @@ module _ (r : Reply) (buf : List ℕ) where
   module _ {b : Bool} (h : reply_room ≤ length buf) (w : b ≡ writable_of r) where
     pub odd : not b ≡ true → Writes r buf (written.Refused not_writable) buf
     unfolding written_of left_of
-    odd n = record { answer = simp (le-ltb _ _ h, ← w, not_true b n); buffer = simp (le-ltb _ _ h, ← w, not_true b n) }
+    odd n = record { answer = simp (le-ltb _ _ h, ← w, not-true b n); buffer = simp (le-ltb _ _ h, ← w, not-true b n) }
 
     pub done : {s : Reply} {bs l : List ℕ} {n : ℕ} → r ≡ s → bs ≡ bytes_of s → not b ≡ false → n ≡ length bs → l ≡ take (length bs) bs ++ drop (length bs) buf → Writes r buf (written.Bytes n) l
     unfolding written_of left_of
@@ -107,12 +107,12 @@ stands_as b e q h = h ∙ rw (q, e)
 module _ (r : Reply) (b : List ℕ) {w : Bool} (hw : w ≡ writable_of r) where
   pub unwritable : not w ≡ true → found.Refused not_writable ≡ fitted r b
   unfolding fitted
-  unwritable n = rw (← hw, not_true w n)
+  unwritable n = rw (← hw, not-true w n)
 
   module _ {s : Bool} (n : not w ≡ false) (hs : s ≡ starts_with (bytes_of r) b) where
     pub unlike : not s ≡ true → found.Refused not_writable ≡ fitted r b
     unfolding fitted
-    unlike m = rw (← hw, not-false w n, ← hs, not_true s m)
+    unlike m = rw (← hw, not-false w n, ← hs, not-true s m)
 
     pub like : not s ≡ false → found.Reply r ≡ fitted r b
     unfolding fitted
@@ -173,7 +173,7 @@ module _ (P : Found → Type 0) (b : List ℕ) where
   unfolding found_in
   each_finding refused ours response status rest =
       cond_ind P (ltb (length b) 2) (λ _. refused)
-      (λ h. cond_ind P (not (eqb (byte b 0) sms_code)) (λ n. ours (ltb-false _ _ h) (eqb-false _ _ (not_true _ n)))
+      (λ h. cond_ind P (not (eqb (byte b 0) sms_code)) (λ n. ours (ltb-false _ _ h) (eqb-false _ _ (not-true _ n)))
       (λ e. cond_ind P (eqb (byte b 1) scsi_response)
       (λ k. cond_ind P (ltb (length b) response_length) (λ _. refused)
       (λ l. response (ltb-false _ _ h) (eqb-true _ _ (not-false _ e)) (eqb-true _ _ k) (ltb-false _ _ l)))

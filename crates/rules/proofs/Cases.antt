@@ -7,7 +7,7 @@ use mathlib.Core.Path.{◌≡◌, refl, sym, ◌∙◌}
 use mathlib.Core.Bool.{Bool, true, false, cond, not, not-not}
 use mathlib.Core.List.{List, [], ◌∷◌}
 use lib.Dec.{eqb}
-use borrow.Author.Tests.{not_true, not-false, eq-eqb, ne_eqb}
+use borrow.Author.Tests.{not-true, not-false, eq-eqb, ne_eqb}
 use Rattle.wire.specs.Codes
 use Rattle.wire.specs.Messages.{reserved_set}
 use Rattle.wire.specs.Block.{opcode}
@@ -75,17 +75,17 @@ pub ruleset look_up_cases = (looked_up, picks_so, holds_so, others_asked, nobody
 module _ (f : Facts) (g : Flags) where
   pub no_aca : not f.aca ≡ true → false ≡ kept_out_by_aca f g
   unfolding kept_out_by_aca
-  no_aca h = rw (not_true f.aca h)
+  no_aca h = rw (not-true f.aca h)
 
   module _ (a : not f.aca ≡ false) where
     pub not_owned : not f.owned ≡ true → true ≡ kept_out_by_aca f g
     unfolding kept_out_by_aca
-    not_owned h = rw (not-false f.aca a, not_true f.owned h)
+    not_owned h = rw (not-false f.aca a, not-true f.owned h)
 
     module _ (o : not f.owned ≡ false) {k : Bool} (e : k ≡ asks_aca g) where
       pub other_kind : not k ≡ true → true ≡ kept_out_by_aca f g
       unfolding kept_out_by_aca
-      other_kind h = rw (not-false f.aca a, not-false f.owned o, ← e, not_true k h)
+      other_kind h = rw (not-false f.aca a, not-false f.owned o, ← e, not-true k h)
 
       pub owner_asks : not k ≡ false → f.busy ≡ kept_out_by_aca f g
       unfolding kept_out_by_aca

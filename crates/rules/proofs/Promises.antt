@@ -5,7 +5,7 @@ use mathlib.Core.Bool.{Bool, true, false, cond, not, ◌&&◌, ◌||◌}
 use mathlib.Core.List.{List, [], ◌∷◌, ◌++◌}
 use mathlib.Core.Logic.{inl, inr}
 use lib.Dec.{eqb, leb}
-use borrow.Author.Tests.{not_true, not-false, eq-eqb, eqb-true}
+use borrow.Author.Tests.{not-true, not-false, eq-eqb, eqb-true}
 use Rattle.wire.specs.Codes
 use Rattle.wire.specs.Fields.{byte}
 use Rattle.wire.specs.Messages.{command_reserved, reserved_set}
@@ -105,7 +105,7 @@ module _ (f : Facts) (g : Flags) (m : List ℕ) where
       let r : Rule = deciding f g m in
       elim (either (seven_to_ten r) (not r.applies) (implied (reports02 r.gives) _ (first_meets behind_six rules (accepts m) (rw a) refl) h)) [
         | inl s ↦ s
-        | inr n ↦ absurd (never (first_applies rules (accepts m) refl) (not_true _ n))
+        | inr n ↦ absurd (never (first_applies rules (accepts m) refl) (not-true _ n))
       ]
 
   -- one that is not: no rule behind rule 6 is looked at, and it alone of those gives STATUS 02h
@@ -130,7 +130,7 @@ module _ (f : Facts) (g : Flags) (m : List ℕ) where
   kept_out_so k =
       let front : List Rule = room_rules f g m ++ (field_rules f g m ++ (six f m ∷ [])) in
       let cut : deciding f g m ≡ first_that front (seven f g m) = cut_at front (seven f g m) _ (accepts m) k in
-      not_true _ (rw cut (first_meets (λ (r : Rule). not (holds_queue r.gives)) front (seven f g m) refl refl))
+      not-true _ (rw cut (first_meets (λ (r : Rule). not (holds_queue r.gives)) front (seven f g m) refl refl))
 
   owners_so : holds_queue (deciding f g m).gives ≡ true → f.aca ≡ true → f.owned ≡ true
   unfolding kept_out_by_aca

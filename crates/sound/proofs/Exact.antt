@@ -8,7 +8,7 @@ use mathlib.Core.Option.{none, some}
 use mathlib.Core.Logic.{inl, inr}
 use native.Mathlib.Omega.{arith}
 use lib.Dec.{eqb, ltb, leb}
-use borrow.Author.Tests.{ltb-true, ltb-false, leb-true, eqb-true, eqb-false, not_true, lt-ltb, le-ltb, le-leb, eq-eqb, ne_eqb}
+use borrow.Author.Tests.{ltb-true, ltb-false, leb-true, eqb-true, eqb-false, not-true, lt-ltb, le-ltb, le-leb, eq-eqb, ne_eqb}
 use Rattle.task.specs.Tasks.{no_task, is_aca, is_waiting, is_running, is_end}
 use Rattle.task.specs.Map.{is_live}
 use Rattle.task.specs.declared.Kind.{Kind}
@@ -67,7 +67,7 @@ path_zero a h =
     let f = both _ _ h in
     let g = both _ _ f.1 in
     let id : a.id ≡ 0 = eqb-true _ _ f.0 in
-    let full : a.full ≡ false = not_true _ g.0 in
+    let full : a.full ≡ false = not-true _ g.0 in
     let attention : a.attention ≡ attention.Nothing = attention_zero _ g.1 in
     λ i. record { id = id i; full = full i; attention = attention i }
 
@@ -238,7 +238,7 @@ parts t s = record {
 module _ (t : Table) where
   some_path : count_ok t ≡ true → 1 ≤ t.count
   unfolding count_ok
-  some_path h = let n : t.count ≡ 0 → ⊥ = eqb-false _ _ (not_true _ (both _ (leb t.count 8) h).0) in omega arith
+  some_path h = let n : t.count ≡ 0 → ⊥ = eqb-false _ _ (not-true _ (both _ (leb t.count 8) h).0) in omega arith
 
   eight_at_most : count_ok t ≡ true → t.count ≤ 8
   unfolding count_ok
@@ -370,7 +370,7 @@ passed t h =
       dead_zero = dead_zero t records.0;
       unused_is_zero = unused_is_zero t unused.0;
       order = live_in_order t records.0;
-      apart = alone t (not_true (clashes t) units.1);
+      apart = alone t (not-true (clashes t) units.1);
       owner = owner_ok t units.0;
     })
 

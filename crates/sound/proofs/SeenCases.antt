@@ -9,7 +9,7 @@ use mathlib.Core.List.{List}
 use native.Mathlib.Numerals.{add-one}
 use lib.ListN.{length, get_or, set, get_or-eq_default}
 use lib.Seq.{set_out}
-use borrow.Author.Tests.{not_true, not-false}
+use borrow.Author.Tests.{not-true, not-false}
 use Rattle.task.specs.Tasks.{is_aca, is_running}
 use Rattle.task.specs.Map.{is_live, with_bit}
 use Rattle.task.specs.declared.Task.{Task}
@@ -30,7 +30,7 @@ module _ (seen : List ℕ) (k : ℕ) where
 
   module _ (asked : Bool) where
     pub not_asked : not asked ≡ true → seen ≡ with_seen_if asked seen k
-    not_asked h = rw (not_true asked h)
+    not_asked h = rw (not-true asked h)
 
     module _ (h : not asked ≡ false) where
       pub asked_past : length seen ≤ k / 64 → seen ≡ with_seen_if asked seen k

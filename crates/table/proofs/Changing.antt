@@ -13,7 +13,7 @@ use native.Mathlib.Omega.{arith}
 use lib.Dec.{eqb, leb}
 use lib.ListN.{length, get_or, set, replicate}
 use lib.Seq.{set-get_or}
-use borrow.Author.Tests.{lt-ltb, le-ltb, le-leb, lt-leb, not_true, not-false}
+use borrow.Author.Tests.{lt-ltb, le-ltb, le-leb, lt-leb, not-true, not-false}
 use Rattle.task.specs.Index.{first, map_of, map_at}
 use Rattle.task.specs.Tasks.{no_task}
 use Rattle.task.specs.Map.{is_live, lowest_free, with_bit, without_bit}
@@ -148,7 +148,7 @@ module _ (t : Table) {i : ℕ} (a : Task) where
   module _ {b : Bool} (h : i < 64) (e : b ≡ is_live t.live i) where
     pub alter_dead : not b ≡ true → t ≡ altered_at t i a
     unfolding altered_at
-    alter_dead k = rw (lt-ltb i 64 h, ← e, not_true b k)
+    alter_dead k = rw (lt-ltb i 64 h, ← e, not-true b k)
 
     pub alter_live : {c : Task} → not b ≡ false → c ≡ a → with_tasks t t.live (set t.tasks i c) ≡ altered_at t i a
     unfolding altered_at

@@ -4,7 +4,7 @@ use mathlib.Core.Path.{◌≡◌, refl, sym, ◌∙◌}
 use mathlib.Core.Bool.{Bool, true, false, not}
 use lib.Dec.{eqb}
 use lib.Bits.{bit_and, bit_or}
-use borrow.Author.Tests.{not_true, not-false}
+use borrow.Author.Tests.{not-true, not-false}
 use Rattle.task.specs.Tasks.{kind_number, phase_number}
 use Rattle.task.specs.Map.{with_bit, without_bit}
 use Rattle.task.specs.Selections.{number_asked, whose_asked, place_asked, sort_asked, stage_asked, picks_live}
@@ -68,7 +68,7 @@ pub ruleset asked = (asks_number, asks_path, asks_name, asks_other, asks_unit, a
 module _ (live : ℕ) (s : Selection) (best : Pick) (i : ℕ) (a : Task) where
   pub no_part : {p : Bool} → p ≡ picks_live live s i a → not p ≡ true → best ≡ considered live s best i a
   unfolding considered
-  no_part {p} e h = rw (← e, not_true p h)
+  no_part {p} e h = rw (← e, not-true p h)
 
   module _ {p : Bool} (e : p ≡ picks_live live s i a) (h : not p ≡ false) where
     pub comes_first : {t : Pick} → t ≡ taken_at i a → not best.found ≡ true → t ≡ considered live s best i a

@@ -7,7 +7,7 @@ use mathlib.Core.Bool.{Bool, true, false, cond, not}
 use native.Mathlib.Nat.{le_antisymm, pow-suc}
 use native.Mathlib.Numerals.{add-one}
 use native.Mathlib.Omega.{arith}
-use borrow.Author.Tests.{not_true, not-false}
+use borrow.Author.Tests.{not-true, not-false}
 use Rattle.task.specs.Index.{first, some_below, all_below, one, map_of}
 use Rattle.task.proofs.Places.{some_at, none_at, all_off, first_is, first_none}
 
@@ -42,7 +42,7 @@ module _ (p : ℕ → Bool) where
     all_miss l e h = sym (all_off n i p l (sym e ∙ h))
 
     pub all_miss_not : {b : Bool} → i < n → b ≡ p i → not b ≡ true → false ≡ all_below n p
-    all_miss_not {b} l e h = all_miss l e (not_true b h)
+    all_miss_not {b} l e h = all_miss l e (not-true b h)
 
     pub all_end : i ≤ n → n ≤ i → all_below i p ≡ true → true ≡ all_below n p
     all_end l m h = rw (← le_antisymm l m) (sym h)

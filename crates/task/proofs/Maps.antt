@@ -7,7 +7,7 @@ use native.Mathlib.Omega.{arith}
 use lib.Dec.{ltb, lit<}
 use lib.Pow.{pow-lt}
 use lib.Bits.{or_lt, and_le_l}
-use borrow.Author.Tests.{lt-ltb, ltb-true, not_true}
+use borrow.Author.Tests.{lt-ltb, ltb-true, not-true}
 use Rattle.task.specs.Map.{is_live, is_free, lowest_free, with_bit, without_bit, gone}
 use Rattle.wire.proofs.Table.{cond_ind}
 use Rattle.task.proofs.Places.{first_picks}
@@ -59,7 +59,7 @@ without_le live i = cond_ind (λ (m : ℕ). m ≤ live) (ltb i 64) (λ _. and_le
 
 pub lowest_free_law : (live : ℕ) → lowest_free live < 64 → is_live live (lowest_free live) ≡ false
 unfolding lowest_free
-lowest_free_law live l = not_true _ (first_picks 64 (is_free live) l)
+lowest_free_law live l = not-true _ (first_picks 64 (is_free live) l)
 
 -- ---- what is live no more
 

@@ -8,7 +8,7 @@ use mathlib.Core.Bool.{Bool, true, false, cond, not, ◌&&◌, ◌||◌}
 use mathlib.Core.Logic.{◌⊎◌, inl, inr}
 use native.Mathlib.Omega.{arith}
 use lib.Dec.{eqb, ltb}
-use borrow.Author.Tests.{not_true, not-false, eq-eqb, ne_eqb, lt-ltb, le-ltb}
+use borrow.Author.Tests.{not-true, not-false, eq-eqb, ne_eqb, lt-ltb, le-ltb}
 
 pub either_way : (b : Bool) → (b ≡ true) ⊎ (b ≡ false)
 either_way true = inl refl
@@ -35,7 +35,7 @@ module _ {b x : Bool} where
   answered_false e h = cc
 
   pub inverted_true : b ≡ x → not b ≡ true → x ≡ false
-  inverted_true e h = answered_false e (not_true b h)
+  inverted_true e h = answered_false e (not-true b h)
 
   pub inverted_false : b ≡ x → not b ≡ false → x ≡ true
   inverted_false e h = answered_true e (not-false b h)

@@ -5,7 +5,7 @@ use mathlib.Core.Path.{◌≡◌, ◌∙◌}
 use mathlib.Core.Bool.{Bool, true, false, not}
 use mathlib.Core.List.{List, []}
 use lib.ListN.{length, take, drop}
-use borrow.Author.Tests.{eq-eqb, ne_eqb, lt-ltb, le-ltb, le-leb, lt-leb, not_true, not-false}
+use borrow.Author.Tests.{eq-eqb, ne_eqb, lt-ltb, le-ltb, le-leb, lt-leb, not-true, not-false}
 use Rattle.wire.specs.Codes
 use Rattle.task.specs.Map.{live_count}
 use Rattle.table.specs.Tables.{zero_table}
@@ -41,7 +41,7 @@ module _ (s : List ℕ) {p : Player} where
   module _ (l : length s ≤ longest) {h : Header} (e : h ≡ header_of s) where
     pub bad_header : {t : Table} → not h.ok ≡ true → t ≡ zero_table → p ≡ standing t state.Bad → p ≡ opened s
     unfolding opened by_header
-    bad_header n z q = q ∙ rw (z, le-ltb _ _ l, ← e, not_true h.ok n)
+    bad_header n z q = q ∙ rw (z, le-ltb _ _ l, ← e, not-true h.ok n)
 
     module _ (n : not h.ok ≡ false) {o : Outcome} (f : o ≡ set_by h) {b : Bool} (g : b ≡ is_refused o.answer) where
       pub refused_setup : b ≡ true → p ≡ standing o.table state.Refused → p ≡ opened s
@@ -102,7 +102,7 @@ pub ruleset call_cases = (call_message, call_start, call_finish, call_reset)
 module _ (p : Player) (s : List ℕ) {b : Bool} (e : b ≡ is_playing p.state) where
   pub not_playing : {r : Turn} → not b ≡ true → r ≡ idled (standing_at p p.state) → r ≡ turned p s
   unfolding turned
-  not_playing n q = q ∙ rw (← e, not_true b n)
+  not_playing n q = q ∙ rw (← e, not-true b n)
 
   module _ (n : not b ≡ false) where
     pub at_end : {r : Turn} → length s ≤ p.at → r ≡ idled (standing_at p state.Done) → r ≡ turned p s
@@ -141,7 +141,7 @@ module _ (p : Player) (s buf : List ℕ) where
   module _ (l : 64 ≤ length buf) {t : Turn} (e : t ≡ turned p s) where
     pub nothing_played : not t.played ≡ true → Advances p s buf (record { player = t.player; wrote = 0 }) buf
     unfolding step_of line_left
-    nothing_played n = record { step = rw (le-ltb _ _ l, ← e, not_true t.played n); buffer = rw (le-ltb _ _ l, ← e, not_true t.played n) }
+    nothing_played n = record { step = rw (le-ltb _ _ l, ← e, not-true t.played n); buffer = rw (le-ltb _ _ l, ← e, not-true t.played n) }
 
     pub line_written :
         {m : Line} {n : ℕ} {left : List ℕ} → not t.played ≡ false → m ≡ turn_line t → Handed m buf n left

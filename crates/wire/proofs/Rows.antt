@@ -10,7 +10,7 @@ use lib.Dec.{ltb, eqb}
 use native.Mathlib.Nat.{add-zero}
 use native.Mathlib.Numerals.{add-one}
 use native.Mathlib.Omega.{arith}
-use borrow.Author.Tests.{lt-ltb, le-ltb, ltb-false, eq-eqb, ne_eqb, eqb-true, eqb-false, not_true, not-false}
+use borrow.Author.Tests.{lt-ltb, le-ltb, ltb-false, eq-eqb, ne_eqb, eqb-true, eqb-false, not-true, not-false}
 use Rattle.wire.specs.Codes.{too_short, not_handled, sms_code}
 use Rattle.wire.specs.Fields.{byte, joined, word, long}
 use Rattle.wire.specs.Messages.{codes, rows, row_in, row_of, length_of, flags_of, confirm_of, fields_of, read_of}
@@ -134,7 +134,7 @@ module _ (P : Message → Type 0) (m : List ℕ) where
   unfolding read_of
   each_reading refused ours row message =
       cond_ind P (ltb (length m) 2) (λ _. refused)
-      (λ h. cond_ind P (not (eqb (byte m 0) sms_code)) (λ n. ours (ltb-false _ _ h) (eqb-false _ _ (not_true _ n)))
+      (λ h. cond_ind P (not (eqb (byte m 0) sms_code)) (λ n. ours (ltb-false _ _ h) (eqb-false _ _ (not-true _ n)))
       (λ e. cond_ind P (eqb (row_of (byte m 1)) rows) (λ z. row (ltb-false _ _ h) (eqb-true _ _ (not-false _ e)) (eqb-true _ _ z))
       (λ z. cond_ind P (ltb (length m) (length_of (row_of (byte m 1)))) (λ _. refused)
       (λ l. message (ltb-false _ _ h) (eqb-true _ _ (not-false _ e)) (in_table (byte m 1) refl (eqb-false _ _ z)) (ltb-false _ _ l)))))
