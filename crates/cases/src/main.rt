@@ -1,5 +1,7 @@
 // Runs cases, bytes and calls: echoes each line of standard input, then of the files `confirmed`, `ended` and `held`, and
 // answers it where it is a case. A table is kept from line to line of each.
+#![tactic(auto)]
+
 mod cases;
 mod engine_cases;
 mod print;
@@ -17,7 +19,7 @@ use wire::fields::byte_at;
 const NO_CASE: usize = ROOM + 1;
 
 // What two characters say.
-#[derive(Drop)]
+#[derive(Clone, Copy)]
 enum Pair {
     Byte(u8),
     Bad,

@@ -175,7 +175,7 @@ fn may_go(aca: Aca, unit: u8) -> Selection
 
 // What a call of the device comes to: the answer, the record that it is about, or 64, and the id of the path that the
 // reply goes to.
-#[derive(Drop)]
+#[derive(Clone, Copy)]
 pub struct Verdict {
     pub answer: Answer,
     pub place: usize,

@@ -1,5 +1,7 @@
 // The engine's calls. Each takes the table and hands back the next one; bad input is refused by its number, and a
 // refusal changes nothing.
+#![tactic(auto)]
+
 pub mod calls;
 
 use plan::Answer;
@@ -9,7 +11,7 @@ use table::Table;
 // that was handed in. The id of the return path that a reply goes to, 0 with none: the sender of the message, or the
 // path of the finished task. Which units have to stop: bit u of `stops` where the command that ran on unit u was ended
 // by anything but its own finish.
-#[derive(Drop)]
+#[derive(Clone, Copy)]
 pub struct Outcome {
     pub table: Table,
     pub answer: Answer,

@@ -1,6 +1,8 @@
 // A program to be read, for the stack figure: it makes each of the five calls at two places, so that the compiler
 // keeps each as a function. What it hands them comes from standard input, so that none is compiled for one value
 // alone. tools/stack reads the built program.
+#![tactic(auto)]
+
 use engine::calls::{finish, message, setup, start, total_reset};
 use libc::{STDIN_FILENO, STDOUT_FILENO};
 use table::Table;

@@ -5,7 +5,7 @@ ghost use Rattle.input.specs.Events.{message_at, start_at, finish_at, event_at};
 use crate::number::{Number, byte_at, number_at};
 
 // An event with its fields; a message is the part of the input from one place up to another.
-#[derive(Drop)]
+#[derive(Clone, Copy)]
 pub enum Event {
     Message {
         from: usize,
@@ -24,7 +24,7 @@ pub enum Event {
 }
 
 // What stands at a place: an event and the place after it, or nothing that is well formed.
-#[derive(Drop)]
+#[derive(Clone, Copy)]
 pub enum Next {
     Is(Event, usize),
     Bad,

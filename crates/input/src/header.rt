@@ -7,7 +7,7 @@ use crate::number::{Number, byte_at, number_at};
 
 // Ids that were read: the first nine of them, the place after the last, and whether all were well formed. A setup
 // takes eight: with nine it is refused.
-#[derive(Drop)]
+#[derive(Clone, Copy)]
 pub struct Ids {
     pub next: usize,
     pub ids: [u32; 9],
@@ -15,7 +15,7 @@ pub struct Ids {
 }
 
 // What the header says: `count` ids are kept, nine at most.
-#[derive(Drop)]
+#[derive(Clone, Copy)]
 pub struct Header {
     pub first: u64,
     pub next: usize,

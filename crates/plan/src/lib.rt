@@ -1,4 +1,6 @@
 // The plan: what a message asks, the answer to it, and what that does to the table. No table travels here.
+#![tactic(auto)]
+
 ghost use Rattle.std.specs.Prelude.{◌≡◌};
 ghost use Rattle.plan.specs.Plans.{asked_of, tag_asked, unit_asked, clears_set, goes_by_unit, kind_of, sequel_of, planned, refusing, report_change, ruled, order_plan, is_awaited, confirm_plan, plan_of, sender_after, paths_after, units_after};
 
@@ -15,7 +17,7 @@ use wire::codes::{Queue, Refusal, ReturnCode};
 use wire::message::{Flags, Message};
 
 // What is asked for: a command's queueing, an order, or what is to become of a task that waits to be confirmed.
-#[derive(Drop)]
+#[derive(Clone, Copy)]
 pub enum Request {
     Command { lun: u8, flags: Flags },
     Manage(Order),
@@ -23,7 +25,7 @@ pub enum Request {
 }
 
 // Who asks for it, under which tag; or why nothing is heard.
-#[derive(Drop)]
+#[derive(Clone, Copy)]
 pub enum Asked {
     By {
         path: u32,
@@ -34,7 +36,7 @@ pub enum Asked {
 }
 
 // What happens to the records.
-#[derive(Drop)]
+#[derive(Clone, Copy)]
 pub enum RecordChange {
     // Every record stays.
     Nothing,
@@ -58,7 +60,7 @@ pub enum RecordChange {
 }
 
 // What a call answers. Reply is the one that leaves bytes in the reply buffer.
-#[derive(Drop)]
+#[derive(Clone, Copy)]
 pub enum Answer {
     Ready,
     Accepted(u64),
@@ -71,7 +73,7 @@ pub enum Answer {
 }
 
 // The answer, and what it does to the table. A refusal does nothing.
-#[derive(Drop)]
+#[derive(Clone, Copy)]
 pub struct Plan {
     pub answer: Answer,
     pub change: Change,

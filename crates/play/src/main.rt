@@ -1,5 +1,7 @@
 // The transcript program: reads a recorded sequence of calls from standard input and prints a line for each, then the
 // last line.
+#![tactic(auto)]
+
 use libc::{STDIN_FILENO, STDOUT_FILENO};
 use transcript::play::Player;
 

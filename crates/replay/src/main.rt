@@ -1,5 +1,7 @@
 // Plays every transcript of the data folder and compares what is printed with what must be printed.
 // The file `names` has one name a line; NAME.in is an input, NAME.out its text.
+#![tactic(auto)]
+
 use libc::STDOUT_FILENO;
 use transcript::play::Player;
 

@@ -1,4 +1,6 @@
 // The replies: SCSI RESPONSE and SCSI STATUS written into a lent buffer, and read back.
+#![tactic(auto)]
+
 ghost use Rattle.std.specs.Prelude.{◌≡◌};
 ghost use Rattle.reply.specs.Replies.{one_of, response_codes, plain_statuses, is_none, writable_of, bytes_of};
 ghost use Rattle.reply.specs.Calls.{Writes, starts_with, fitted, as_response, as_status, found_in};
@@ -7,10 +9,10 @@ use wire::codes::{
     ADDITIONAL_SENSE_LENGTH, CURRENT_ERROR, REPLY_ROOM, Refusal, ReturnCode, SCSI_RESPONSE,
     SCSI_STATUS, SMS_CODE, Sense, StatusByte,
 };
-use wire::fields::{byte_at, word};
+use wire::fields::{byte_at, copy, word};
 
 // Invalid is the SCSI STATUS of a command whose bits contradict each other: STATUS 00h, RETURN CODE FFh.
-#[derive(Drop)]
+#[derive(Clone, Copy)]
 pub enum Reply {
     Response {
         tag: u16,
@@ -27,14 +29,14 @@ pub enum Reply {
 }
 
 // What the writer answers: how many bytes it wrote, or why it wrote none.
-#[derive(Drop)]
+#[derive(Clone, Copy)]
 pub enum Written {
     Bytes(usize),
     Refused(Refusal),
 }
 
 // What the reader finds.
-#[derive(Drop)]
+#[derive(Clone, Copy)]
 pub enum Found {
     Reply(Reply),
     Refused(Refusal),
@@ -175,15 +177,15 @@ pub fn write(r: Reply, buf: &mut [u8]) -> Written
     match r {
         Reply::Response { tag, code } => {
             let b = response_bytes(tag, code);
-            Written::Bytes(bytes::copy(&b, buf))
+            Written::Bytes(copy(&b, buf))
         }
         Reply::Status { tag, status, sense } => {
             let b = status_bytes(tag, status, sense);
-            Written::Bytes(bytes::copy(&b, buf))
+            Written::Bytes(copy(&b, buf))
         }
         Reply::Invalid { tag } => {
             let b = invalid_bytes(tag);
-            Written::Bytes(bytes::copy(&b, buf))
+            Written::Bytes(copy(&b, buf))
         }
     }
 }

@@ -2,7 +2,7 @@
 use task::select::Place;
 
 // What an answer does to the sender's mark and attention.
-#[derive(Drop)]
+#[derive(Clone, Copy)]
 pub enum SenderChange {
     // Both stay: RESUME set, path not marked.
     Stays,
@@ -15,7 +15,7 @@ pub enum SenderChange {
 }
 
 // What an answer does to the queue of the command's unit.
-#[derive(Drop)]
+#[derive(Clone, Copy)]
 pub enum QueueChange {
     // The unit's ACA stays as it is.
     Leaves,
@@ -23,7 +23,7 @@ pub enum QueueChange {
     Holds,
 }
 
-#[derive(Drop)]
+#[derive(Clone, Copy)]
 pub enum Change {
     // All stay.
     Nothing,

@@ -12,7 +12,7 @@ use wire::message::Flags;
 
 // What a rule answers, with what that does to the sender; with a STATUS also what it does to the queue of the unit. A
 // refusal changes nothing.
-#[derive(Drop)]
+#[derive(Clone, Copy)]
 pub enum Ruling {
     Refuse(Refusal),
     Respond(ReturnCode, SenderChange),
@@ -22,7 +22,7 @@ pub enum Ruling {
 }
 
 // The number of the rule that decided, and its answer.
-#[derive(Drop)]
+#[derive(Clone, Copy)]
 pub struct Decision {
     pub rule: u8,
     pub ruling: Ruling,

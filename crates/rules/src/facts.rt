@@ -8,7 +8,7 @@ use task::scan::Pick;
 use task::select::Selection;
 
 // What the rules ask of the table.
-#[derive(Drop)]
+#[derive(Clone, Copy)]
 pub struct Facts {
     // The sender's buffer-full mark and pending attention.
     pub marked: bool,
@@ -26,7 +26,7 @@ pub struct Facts {
 
 // What was looked up in the table: the facts, the sender's live task with the tag, if there is one, and the map of
 // the other paths that have a task on the unit.
-#[derive(Drop)]
+#[derive(Clone, Copy)]
 pub struct Lookup {
     pub facts: Facts,
     pub own: Pick,

@@ -8,7 +8,7 @@ use task::select::{Place, Selection};
 use wire::codes::ReturnCode;
 
 // An order, with the tag or the unit that it names.
-#[derive(Drop)]
+#[derive(Clone, Copy)]
 pub enum Order {
     AbortTask(u16),
     AbortTaskSet(u8),

@@ -1,5 +1,7 @@
 // The soundness check: is a table one that the calls may work on? Each clause of page 01's "Sound means" over all paths,
 // units and records, and the pairwise walk.
+#![tactic(auto)]
+
 ghost use Rattle.std.specs.Prelude.{◌≡◌};
 ghost use Rattle.sound.specs.Sound;
 ghost use Rattle.sound.specs.Sound.{count_ok, paths_distinct, unused_zero, records_ok, units_ok, sound_of};

@@ -1,5 +1,7 @@
 // The speed program: 100,000 messages against 60 live tasks, and one line that says how they were answered. They are
 // 25,000 rounds of four; where standard input begins with `c`, each is CLEAR TASK SET of a unit that has no task.
+#![tactic(auto)]
+
 mod messages;
 mod tally;
 
@@ -25,7 +27,7 @@ const NEW: u16 = 0x1000;
 const ABSENT: u16 = 0x2000;
 
 // The table and the tally, from message to message.
-#[derive(Drop)]
+#[derive(Clone, Copy)]
 struct Run {
     table: Table,
     tally: Tally,

@@ -6,7 +6,7 @@ use std::num::wrapping_add_u64;
 use task::map::live_count;
 use wire::codes::ReturnCode;
 
-#[derive(Drop)]
+#[derive(Clone, Copy)]
 pub struct Tally {
     pub accepted: u64,
     pub done: u64,

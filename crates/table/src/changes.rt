@@ -13,7 +13,7 @@ use task::select::Selection;
 use task::{Kind, RECORDS, Sequel, Task};
 
 // Who has a live task that a selection picks: the map of their places in the path list, and whether there is anyone.
-#[derive(Drop)]
+#[derive(Clone, Copy)]
 pub struct Holders {
     pub paths: u64,
     pub found: bool,

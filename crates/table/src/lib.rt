@@ -1,5 +1,7 @@
 // The task table: 64 records, 8 paths, 8 units, by value. Every call of the engine takes one and hands back the next.
 // It knows no message.
+#![tactic(auto)]
+
 pub mod changes;
 pub mod paths;
 pub mod setup;
@@ -9,7 +11,7 @@ pub mod units;
 use task::{RECORDS, Task};
 
 // A path's pending unit attention. The first variant is the zero of a wiped record, here and in Aca.
-#[derive(Drop)]
+#[derive(Clone, Copy)]
 pub enum Attention {
     Nothing,
     Reset,
@@ -17,27 +19,27 @@ pub enum Attention {
 }
 
 // A unit's auto contingent allegiance: none, or owned by the path at a place of the path list.
-#[derive(Drop)]
+#[derive(Clone, Copy)]
 pub enum Aca {
     Clear,
     Owned(u8),
 }
 
 // A return path: its id, its buffer-full mark, its pending attention.
-#[derive(Drop)]
+#[derive(Clone, Copy)]
 pub struct Path {
     pub id: u32,
     pub full: bool,
     pub attention: Attention,
 }
 
-#[derive(Drop)]
+#[derive(Clone, Copy)]
 pub struct Unit {
     pub aca: Aca,
 }
 
 // The table: which records are live, the next arrival number, how many paths are listed, the mask of attached units.
-#[derive(Drop)]
+#[derive(Clone, Copy)]
 pub struct Table {
     pub live: u64,
     pub next: u64,

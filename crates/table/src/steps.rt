@@ -9,7 +9,7 @@ use task::{Kind, Phase, RECORDS, Sequel, Task};
 
 // How a live task changes: it runs; it waits again, to start at an offset; it waits to be confirmed, with the bytes
 // transferred.
-#[derive(Drop)]
+#[derive(Clone, Copy)]
 pub enum Alteration {
     Run,
     Restart(u32),
@@ -17,7 +17,7 @@ pub enum Alteration {
 }
 
 // What happens to the records.
-#[derive(Drop)]
+#[derive(Clone, Copy)]
 pub enum Step {
     // Every record stays.
     Stay,

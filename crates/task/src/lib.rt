@@ -1,5 +1,7 @@
 // A task's record, the map of live records, which tasks a selection picks, and the scan of lent records. It knows no
 // message and no table.
+#![tactic(auto)]
+
 ghost use Rattle.std.specs.Prelude.{◌≡◌};
 ghost use Rattle.task.specs.Tasks.{no_task, kind_number, phase_number, is_aca, is_waiting, is_running, is_end, has_confirm};
 
@@ -11,7 +13,7 @@ pub mod select;
 pub const RECORDS: usize = 64;
 
 // How a task is queued. The first is the zero of a wiped record, here, in Phase and in Sequel.
-#[derive(Drop)]
+#[derive(Clone, Copy)]
 pub enum Kind {
     Aca,
     Head,
@@ -20,7 +22,7 @@ pub enum Kind {
 }
 
 // Unconfirmed: the device has finished, and the task waits to be confirmed.
-#[derive(Drop)]
+#[derive(Clone, Copy)]
 pub enum Phase {
     Waiting,
     Running,
@@ -29,7 +31,7 @@ pub enum Phase {
 
 // What follows a finish: the task ends, or with CONFIRM it waits to be confirmed. One enum, since CONFIRM and LINK
 // (M-112) never go together.
-#[derive(Drop)]
+#[derive(Clone, Copy)]
 pub enum Sequel {
     End,
     Confirm,
@@ -39,7 +41,7 @@ pub enum Sequel {
 // list. The position is how many bytes into the command's data: while the task waits or runs, the offset that it
 // starts at (that of its last restart, or 0); while it waits to be confirmed, the bytes that the finish said were
 // transferred.
-#[derive(Drop)]
+#[derive(Clone, Copy)]
 pub struct Task {
     pub arrival: u64,
     pub position: u64,

@@ -7,7 +7,7 @@ use crate::select::Selection;
 use crate::{Kind, Task};
 
 // What the scan picked, at its end or so far: the task, the record that it stands in, and whether there is one.
-#[derive(Drop)]
+#[derive(Clone, Copy)]
 pub struct Pick {
     pub task: Task,
     pub at: usize,

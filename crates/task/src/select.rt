@@ -5,39 +5,39 @@ ghost use Rattle.task.specs.Selections.{number_asked, whose_asked, place_asked, 
 
 use crate::{Kind, Phase, Task};
 
-#[derive(Drop)]
+#[derive(Clone, Copy)]
 pub enum Number {
     AnyNumber,
     Exactly(u64),
 }
 
 // A tag means nothing without its path, so it can't be asked for alone.
-#[derive(Drop)]
+#[derive(Clone, Copy)]
 pub enum Whose {
     Anyone,
     From(u8),
     Named(u8, u16),
 }
 
-#[derive(Drop)]
+#[derive(Clone, Copy)]
 pub enum Place {
     Anywhere,
     On(u8),
 }
 
-#[derive(Drop)]
+#[derive(Clone, Copy)]
 pub enum Sort {
     AnyKind,
     Just(Kind),
 }
 
-#[derive(Drop)]
+#[derive(Clone, Copy)]
 pub enum Stage {
     AnyPhase,
     Now(Phase),
 }
 
-#[derive(Drop)]
+#[derive(Clone, Copy)]
 pub struct Selection {
     pub number: Number,
     pub whose: Whose,

@@ -7,8 +7,9 @@ ghost use Rattle.transcript.specs.Text.{end_of};
 use plan::Answer;
 use reply::Reply;
 use wire::codes::Sense;
+use wire::fields::copy;
 
-#[derive(Drop)]
+#[derive(Clone, Copy)]
 pub struct Line {
     pub bytes: [u8; LINE_ROOM],
     pub len: usize,
@@ -182,5 +183,5 @@ pub(crate) fn hand_over(l: Line, line: &mut [u8]) -> usize
     }
     let bytes = l.bytes;
     let text = &bytes[..n];
-    bytes::copy(text, line)
+    copy(text, line)
 }

@@ -12,7 +12,7 @@ use table::Table;
 use wire::codes::REPLY_ROOM;
 
 // Where a player stands: in an input that goes on, at its end, at something malformed, or at a refused setup.
-#[derive(Drop)]
+#[derive(Clone, Copy)]
 pub enum State {
     Playing,
     Done,
@@ -21,7 +21,7 @@ pub enum State {
 }
 
 // The table, the place in the input, how many events were played, and where the player stands.
-#[derive(Drop)]
+#[derive(Clone, Copy)]
 pub struct Player {
     pub table: Table,
     pub at: usize,
@@ -30,7 +30,7 @@ pub struct Player {
 }
 
 // The player after a step, and how many bytes of the line buffer were written.
-#[derive(Drop)]
+#[derive(Clone, Copy)]
 pub struct Step {
     pub player: Player,
     pub wrote: usize,
@@ -144,7 +144,7 @@ fn is_playing(state: State) -> bool
 }
 
 // One event played: the player after it with the answer, or where it stopped.
-#[derive(Drop)]
+#[derive(Clone, Copy)]
 pub struct Turn {
     pub player: Player,
     pub answer: Answer,

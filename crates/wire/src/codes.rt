@@ -33,7 +33,7 @@ pub const INQUIRY: u8 = 0x12;
 pub const REQUEST_SENSE: u8 = 0x03;
 
 // A numbered refusal (page 01, "Numbered refusals").
-#[derive(Drop)]
+#[derive(Clone, Copy)]
 pub struct Refusal(pub u8);
 
 impl Refusal {
@@ -69,7 +69,7 @@ impl Refusal {
 }
 
 // The RETURN CODE of a SCSI RESPONSE (003, table 21); of a SCSI STATUS (table 9) the first and the last alone.
-#[derive(Drop)]
+#[derive(Clone, Copy)]
 pub struct ReturnCode(pub u8);
 
 impl ReturnCode {
@@ -85,7 +85,7 @@ impl ReturnCode {
 }
 
 // The STATUS of a SCSI STATUS, as SCSI-3 defines it.
-#[derive(Drop)]
+#[derive(Clone, Copy)]
 pub struct StatusByte(pub u8);
 
 impl StatusByte {
@@ -103,7 +103,7 @@ impl StatusByte {
 }
 
 // What the sense data says (003, table 10): SENSE KEY, ADDITIONAL SENSE CODE and its qualifier.
-#[derive(Drop)]
+#[derive(Clone, Copy)]
 pub struct Sense {
     pub key: u8,
     pub code: u8,
@@ -166,7 +166,7 @@ pub const CURRENT_ERROR: u8 = 0x70;
 pub const ADDITIONAL_SENSE_LENGTH: u8 = 0x0a;
 
 // QUEUE CNTL (003, table 6).
-#[derive(Drop)]
+#[derive(Clone, Copy)]
 pub struct Queue(pub u8);
 
 impl Queue {

@@ -1,5 +1,5 @@
 // Fields of a message: a byte, and numbers of two and four bytes, the high byte first.
-ghost use Rattle.std.specs.Prelude.{◌≡◌, ◌+◌, ◌*◌};
+ghost use Rattle.std.specs.Prelude.{◌≡◌, ◌+◌, ◌*◌, ◌++◌, length, take, drop, min};
 ghost use Rattle.wire.specs.Fields.{byte, joined};
 
 // The byte at a place, and 0 past the end.
@@ -21,4 +21,18 @@ pub(crate) fn long(high: u16, low: u16) -> u32
     ensures { result ≡ high * 65536 + low }
 {
     (high as u32) * 65536 + (low as u32)
+}
+
+// Copies bytes to the front of a buffer, as many as it has room for, and answers how many.
+pub fn copy(bytes: &[u8], to: &mut [u8]) -> usize
+    ensures count { result ≡ min (length bytes.now) (length to.old) }
+    ensures left { to.new ≡ take result bytes.now ++ drop result to.old }
+{
+    let n = if bytes.len() < to.len() {
+        bytes.len()
+    } else {
+        to.len()
+    };
+    to[..n].copy_from_slice(&bytes[..n]);
+    n
 }

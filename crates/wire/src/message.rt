@@ -8,7 +8,7 @@ use crate::fields::{byte_at, long, word};
 use crate::tables::{CODES, LENGTHS, MASKS, ROWS, WIDTH};
 
 // Byte 10 of a command.
-#[derive(Drop)]
+#[derive(Clone, Copy)]
 pub struct Flags {
     pub ddrm: bool,
     pub oot: bool,
@@ -18,7 +18,7 @@ pub struct Flags {
 }
 
 // A received message with its fields, or the refusal.
-#[derive(Drop)]
+#[derive(Clone, Copy)]
 pub enum Message {
     Command {
         tag: u16,
