@@ -1,6 +1,8 @@
 -- What can be written, the bytes of a reply, and what the writer and the reader answer, case by case.
 -- Assumes nothing.
-use Prim.Native.Nat.{ℕ, ◌/◌, ◌%◌, ◌≤◌, ◌<◌}
+use Prim.Native.Nat.{ℕ, ◌/◌, ◌%◌, ◌≤◌, ◌<◌, min}
+use native.Mathlib.Nat.{le_trans}
+use Rattle.std.proofs.Math.Nat.{min-eq_left}
 use mathlib.Core.Path.{◌≡◌, sym, ◌∙◌}
 use mathlib.Core.Bool.{Bool, true, false, not, or-false}
 use mathlib.Core.List.{List, [], ◌∷◌, ◌++◌}
@@ -89,15 +91,18 @@ module _ (r : Reply) (buf : List ℕ) where
     unfolding written_of left_of
     odd n = record { answer = simp (le-ltb _ _ h, ← w, not-true b n); buffer = simp (le-ltb _ _ h, ← w, not-true b n) }
 
-    pub done : {s : Reply} {bs l : List ℕ} {n : ℕ} → r ≡ s → bs ≡ bytes_of s → not b ≡ false → n ≡ length bs → l ≡ take (length bs) bs ++ drop (length bs) buf → Writes r buf (written.Bytes n) l
+    -- the bytes have room, so all of them are copied
+    pub done : {s : Reply} {bs l : List ℕ} {n : ℕ} → r ≡ s → bs ≡ bytes_of s → b ≡ true → length bs ≤ reply_room
+        → n ≡ min (length bs) (length buf) → l ≡ take n bs ++ drop n buf → Writes r buf (written.Bytes n) l
     unfolding written_of left_of
-    done e q m k p =
+    done {bs = bs} e q m f k p =
+        let all : min (length bs) (length buf) ≡ length bs = min-eq_left (le_trans f h) in
         record {
-          answer = rw (k, q, ← e) (simp (le-ltb _ _ h, ← w, not-false b m));
-          buffer = p ∙ rw (take-length, q, ← e) (simp (le-ltb _ _ h, ← w, not-false b m));
+          answer = rw (k, all, q, ← e) (simp (le-ltb _ _ h, ← w, m));
+          buffer = p ∙ rw (k, all, take-length, q, ← e) (simp (le-ltb _ _ h, ← w, m));
         }
 
-pub ruleset write_cases = (small, odd, done)
+pub ruleset write_cases = (small, odd)
 
 -- ---- the reader
 
@@ -109,14 +114,14 @@ module _ (r : Reply) (b : List ℕ) {w : Bool} (hw : w ≡ writable_of r) where
   unfolding fitted
   unwritable n = rw (← hw, not-true w n)
 
-  module _ {s : Bool} (n : not w ≡ false) (hs : s ≡ starts_with (bytes_of r) b) where
+  module _ {s : Bool} (n : w ≡ true) (hs : s ≡ starts_with (bytes_of r) b) where
     pub unlike : not s ≡ true → found.Refused not_writable ≡ fitted r b
     unfolding fitted
-    unlike m = rw (← hw, not-false w n, ← hs, not-true s m)
+    unlike m = rw (← hw, n, ← hs, not-true s m)
 
-    pub like : not s ≡ false → found.Reply r ≡ fitted r b
+    pub like : s ≡ true → found.Reply r ≡ fitted r b
     unfolding fitted
-    like m = rw (← hw, not-false w n, ← hs, not-false s m)
+    like m = rw (← hw, n, ← hs, m)
 
 pub ruleset fit_cases = (unwritable, unlike, like)
 

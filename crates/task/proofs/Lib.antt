@@ -13,5 +13,3 @@ pub mod Next
 pub mod Promises
 pub mod Unique
 mod Cases
-pub mod Walking
-pub mod Lending
