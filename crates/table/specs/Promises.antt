@@ -1,5 +1,5 @@
 -- What is promised of the table beside the contracts: what each change does to the tasks. Each is proved in proofs/.
-use Rattle.std.specs.Prelude.{ℕ, ◌+◌, ◌<◌, ◌≡◌, Bool, true, cond, List}
+use Rattle.std.specs.Prelude.{ℕ, ◌+◌, ◌<◌, ◌≡◌, true, cond, List}
 use Rattle.std.proofs.Math.Option.{some}
 use Rattle.std.specs.Int.Count.{ones}
 use Rattle.task.specs.Tasks.{runs}

@@ -1,0 +1,49 @@
+-- `Table::step` meets its contract, by the variant. The loop's invariant: what is picked below i is wiped and its bit
+-- cleared. Assumes nothing.
+use Prim.Native.Nat.{◌<◌}
+use native.Mathlib.Omega.{arith}
+use borrow.Author.Rules.{rules}
+use Rattle.table.proofs.Lists.{unmapped}
+use Rattle.table.proofs.Changing.{room_ways, alter_ways, end_wiped, end_kept, end_loop}
+use Rattle.table.proofs.Stepping.{step_ways}
+use Rattle.table.proofs.Table.step.Goals.{then-picked_live, else-picked_live}
+use Rattle.table.proofs.Table.step.Goals as goal
+
+pub returns-in-Stay : goal.returns-in-Stay
+returns-in-Stay c = search step_ways
+
+pub returns-then-i-ge-RECORDS : goal.returns-then-i-ge-RECORDS
+returns-then-i-ge-RECORDS c = search (step_ways, room_ways)
+
+pub returns-then-next-gt-LAST_ARRIVAL : goal.returns-then-next-gt-LAST_ARRIVAL
+returns-then-next-gt-LAST_ARRIVAL c = search (step_ways, room_ways)
+
+pub returns-in-Accept : goal.returns-in-Accept
+returns-in-Accept c = search (step_ways, room_ways)
+
+pub returns-then-place-ge-RECORDS : goal.returns-then-place-ge-RECORDS
+returns-then-place-ge-RECORDS c = search (step_ways, alter_ways)
+
+pub returns-then-not-is_live : goal.returns-then-not-is_live
+returns-then-not-is_live c = search (step_ways, alter_ways)
+
+pub returns-in-Alter : goal.returns-in-Alter
+returns-in-Alter c = search (step_ways, alter_ways)
+
+pub loop-i-init : goal.loop-i-init
+loop-i-init c = (omega arith, search end_loop, search (rules, unmapped))
+
+pub loop-i-preserved : goal.loop-i-preserved
+loop-i-preserved c =
+    let loop = c.loop-i in
+    let h : loop.i < 64 = omega arith in
+    let e = loop.invariant.1 in
+    let n = loop.invariant.2 in
+    let p = c.picked_live.ensures in
+    elim c.if-picked_live.branch [
+      | then-picked_live w ↦ (omega arith, end_wiped _ _ _ e h p w.if-picked_live.true w.self-is w.no_task-none.ensures w.without_bit.ensures n, n)
+      | else-picked_live w ↦ (omega arith, end_kept _ _ _ e h p w.if-picked_live.false w.self-is, n)
+    ]
+
+pub returns-in-End : goal.returns-in-End
+returns-in-End c = search (rules, step_ways, end_loop)
