@@ -1,7 +1,7 @@
 -- The map of what was seen: a bit that is set is seen, and what was seen stays seen; the bits of each live record
 -- below a place are set; where none of a task's bits is set, no live record below clashes with it. Assumes nothing.
 use Prim.Native.Nat.{ℕ, zero, suc, ◌/◌, ◌%◌, ◌<◌}
-use mathlib.Core.Path.{◌≡◌, refl, sym, ap, ◌∙◌}
+use mathlib.Core.Path.{◌≡◌, refl, ap, ◌∙◌}
 use mathlib.Core.Bool.{Bool, true, false, ◌&&◌, or-true, and-false}
 use mathlib.Core.List.{List, [], ◌∷◌}
 use mathlib.Core.Logic.{◌⊎◌, inl, inr, ⊎_elim}
