@@ -8,12 +8,10 @@
 use Prim.Native.Nat.{ℕ, ◌<◌, ◌≤◌}
 use mathlib.Core.Path.{◌≡◌, refl, sym, ap, ◌∙◌}
 use mathlib.Core.Bool.{Bool, true, false, cond, not, ◌&&◌, ◌||◌}
-use mathlib.Core.List.{List, [], ◌∷◌}
+use mathlib.Core.List.{List}
 use mathlib.Core.Option.{none}
 use lib.Dec.{eqb, leb, ltb}
 use lib.ListN.{length}
-use denote.Enum.Declared.{tag_of}
-use types.Run.{OneOf, miss}
 use Rattle.wire.proofs.Table.{cond_ind}
 use borrow.Author.Tests.{not-false, lt-ltb, le-ltb, le-leb, lt-leb, eq-eqb, ne_eqb}
 use Rattle.wire.specs.Codes
@@ -61,8 +59,6 @@ use Rattle.plan.specs.declared.Asked.TheVariants.{By, Unread}
 use Rattle.plan.specs.declared.RecordChange.{RecordChange}
 use Rattle.plan.specs.declared.RecordChange.TheVariants as records
 use Rattle.plan.specs.declared.Plan.{Plan}
-use Rattle.plan.specs.contracts.Answer.{the_type}
-use Rattle.plan.specs.contracts.RecordChange as record-change
 use Rattle.plan.proofs.Promises.{others_unasked, tasks_unasked}
 use Rattle.plan.specs.declared.Answer.{Answer}
 use Rattle.plan.specs.declared.Answer.TheVariants as answer
@@ -202,17 +198,14 @@ module _ (t : Table) (pl : Plan) {paths : List path.Path} {units : List unit.Uni
     unfolding running_among
     order_stops a = a ∙ rw k
 
--- nothing else has a unit stop: what a match tells where the change is neither none nor an order's
-abbrev not_orders : List ℕ
-not_orders = 1 ∷ 3 ∷ 4 ∷ []
-
+-- nothing else has a unit stop: what a match tells where the change is not an order's
 pub none_stops : (t : Table) {d : RecordChange} → d ≡ records.Nothing → 0 ≡ stops_for t d
 none_stops t e = rw e
 
-pub other_stops : (t : Table) (d : RecordChange) → OneOf not_orders (tag_of record-change.the_type d) → 0 ≡ stops_for t d
+pub other_stops : (t : Table) (d : RecordChange) → ((s : Selection) → d ≡ records.End s → ⊥) → 0 ≡ stops_for t d
 other_stops t records.Nothing k = refl
 other_stops t (records.Accept path tag lun kind sequel) k = refl
-other_stops t (records.End s) k = absurd (miss not_orders 2 tt k)
+other_stops t (records.End s) k = absurd (k _ refl)
 other_stops t (records.Complete s) k = refl
 other_stops t (records.Restart place offset) k = refl
 
@@ -223,27 +216,21 @@ carried_heard t m (By path tag w) = refl
 
 -- ---- the reply
 
--- what a match tells of its last arm: the answer is of none of the sorts named before it, so it is no reply, or not
--- an acceptance
-abbrev no_replies : List ℕ
-no_replies = 0 ∷ 1 ∷ 3 ∷ 4 ∷ 5 ∷ 6 ∷ 7 ∷ []
-
-abbrev not_accepting : List ℕ
-not_accepting = 0 ∷ 2 ∷ 3 ∷ 4 ∷ 5 ∷ 6 ∷ 7 ∷ []
-
-pub no_reply : (a : Answer) → OneOf no_replies (tag_of the_type a) → reply_of a ≡ none
+-- what a match tells of its last arm: the answer is not of the sort named before it, so it is no reply, or not an
+-- acceptance
+pub no_reply : (a : Answer) → ((r : Reply) → a ≡ answer.Reply r → ⊥) → reply_of a ≡ none
 no_reply answer.Ready k = refl
 no_reply (answer.Accepted n) k = refl
-no_reply (answer.Reply r) k = absurd (miss no_replies 2 tt k)
+no_reply (answer.Reply r) k = absurd (k _ refl)
 no_reply (answer.Started offset arrival) k = refl
 no_reply (answer.Confirmed n) k = refl
 no_reply (answer.Restarted n) k = refl
 no_reply answer.Reset k = refl
 no_reply (answer.Refused n) k = refl
 
-pub not_accepted : (a : Answer) → OneOf not_accepting (tag_of the_type a) → is_accepted a ≡ false
+pub not_accepted : (a : Answer) → ((n : ℕ) → a ≡ answer.Accepted n → ⊥) → is_accepted a ≡ false
 not_accepted answer.Ready k = refl
-not_accepted (answer.Accepted n) k = absurd (miss not_accepting 1 tt k)
+not_accepted (answer.Accepted n) k = absurd (k _ refl)
 not_accepted (answer.Reply r) k = refl
 not_accepted (answer.Started offset arrival) k = refl
 not_accepted (answer.Confirmed n) k = refl
