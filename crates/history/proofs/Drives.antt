@@ -2,7 +2,7 @@
 -- break it that go on answering, and those meet it that refuse. Assumes nothing.
 use Prim.Native.Nat.{ℕ, ◌<◌, ◌≤◌, ◌^◌}
 use mathlib.Core.Path.{◌≡◌, refl, sym, ap, subst, ◌∙◌}
-use mathlib.Core.List.{List, [], ◌∷◌}
+use mathlib.Core.List.{◌++◌, List, [], ◌∷◌}
 use native.Mathlib.Omega.{arith}
 use lib.Count.{ones}
 use Rattle.wire.specs.Codes
@@ -115,7 +115,7 @@ module _ (d : Remembering) (E : Echoes d) where
   echo_last : (x : Told) (h : List Told) (t : Table) (evs : List Event) → last_table t (calls_by d (x ∷ h) t evs) ≡ t
   unfolding calls_by last_table
   echo_last x h t [] = refl
-  echo_last x h t (ev ∷ evs) = echo_last x _ (d (x ∷ h) ev t).table evs ∙ E.echo x h ev t
+  echo_last x h t (ev ∷ evs) = echo_last x (h ++ record { event = ev; answer = (d (x ∷ h) ev t).answer } ∷ []) (d (x ∷ h) ev t).table evs ∙ E.echo x h ev t
 
   first_last : (t : Table) (ev : Event) (evs : List Event) → last_table t (calls_by d [] t (ev ∷ evs)) ≡ (d [] ev t).table
   unfolding calls_by last_table
@@ -136,7 +136,7 @@ module _ (d : Remembering) (E : Echoes d) (R : (x : Told) (h : List Told) (ev : 
   later x h t [] = tt
   later x h t (ev ∷ evs) =
       let r = R x h ev t in
-      (refusing r.0 r.1 (E.echo x h ev t), later x _ (d (x ∷ h) ev t).table evs)
+      (refusing r.0 r.1 (E.echo x h ev t), later x (h ++ record { event = ev; answer = (d (x ∷ h) ev t).answer } ∷ []) (d (x ∷ h) ev t).table evs)
 
   from_first : (t : Table) (evs : List Event) → Chained WorksOrRefuses t (calls_by d [] t evs)
   unfolding calls_by

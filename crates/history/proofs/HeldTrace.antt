@@ -16,7 +16,6 @@ use Rattle.task.specs.declared.Task.{Task}
 use Rattle.task.proofs.Ways.{either_way, never}
 use Rattle.table.specs.Tables.{path_of, is_attached, bit_of}
 use Rattle.table.specs.Setup.{bad_list, fresh_table, setup_table}
-use Rattle.table.specs.View.{at}
 use Rattle.table.specs.declared.Table.{Table}
 use Rattle.sound.specs.Promises.{Good}
 use Rattle.plan.specs.Plans.{asked_of}

@@ -1,6 +1,7 @@
 -- A line in the making: bytes put in order, the digits of a number, what each answer says.
 -- Assumes nothing.
-use Prim.Native.Nat.{ℕ, zero, suc, ◌+◌, ◌/◌, ◌%◌, ◌^◌, ◌≤◌, ◌<◌}
+use Prim.Native.Nat.{ℕ, zero, suc, ◌+◌, ◌/◌, ◌%◌, ◌^◌, ◌≤◌, ◌<◌, min}
+use Rattle.std.proofs.Math.Nat.{min-eq_left}
 use mathlib.Core.Path.{◌≡◌, refl, ap, sym, ◌∙◌}
 use mathlib.Core.Bool.{cond}
 use mathlib.Core.List.{List, [], ◌∷◌, ◌++◌}
@@ -139,15 +140,17 @@ module _ (l : Line) (buf : List ℕ) where
     odd_line o = record { wrote = simp (le-ltb _ _ h, lt-ltb _ _ o); buffer = simp (le-ltb _ _ h, lt-ltb _ _ o) }
 
     pub copied :
-        {left : List ℕ} {n : ℕ} → l.len ≤ 64 → length l.bytes ≡ 64 → n ≡ length (take l.len l.bytes)
-        → left ≡ take (length (take l.len l.bytes)) (take l.len l.bytes) ++ drop (length (take l.len l.bytes)) buf
+        {left : List ℕ} {n : ℕ} → l.len ≤ 64 → length l.bytes ≡ 64 → n ≡ min (length (take l.len l.bytes)) (length buf)
+        → left ≡ take n (take l.len l.bytes) ++ drop n buf
         → Handed l buf n left
     unfolding handed_of handed_in
-    copied o k p q =
+    copied {n = n} o k p q =
         let f : length (take l.len l.bytes) ≡ l.len = length-take-le _ _ (omega arith) in
+        let g : n ≡ l.len = p ∙ min-eq_left (omega (arith, f)) ∙ f in
+        let all : take l.len (take l.len l.bytes) ≡ take l.len l.bytes = ap (λ (k : ℕ). take k (take l.len l.bytes)) (sym f) ∙ take-length (take l.len l.bytes) in
         record {
-          wrote = (p ∙ f) ∙ simp (le-ltb _ _ h, le-ltb _ _ o);
-          buffer = q ∙ rw (take-length, f) (simp (le-ltb _ _ h, le-ltb _ _ o));
+          wrote = g ∙ simp (le-ltb _ _ h, le-ltb _ _ o);
+          buffer = q ∙ rw (g, all) (simp (le-ltb _ _ h, le-ltb _ _ o));
         }
 
 pub ruleset hand_cases = (small_buffer, odd_line, copied)
