@@ -7,11 +7,13 @@ mod engine_cases;
 mod print;
 mod table_cases;
 
-ghost use Rattle.std.specs.Prelude.{◌≤◌, length};
+ghost use Rattle.std.specs.Prelude.{◌≤◌, length, IfOk};
 
 use cases::ROOM;
-use libc::STDIN_FILENO;
 use print::text;
+use std::io::Read;
+use std::rt::Files;
+use std::{fs, io};
 use table::Table;
 use wire::fields::byte_at;
 
@@ -77,35 +79,41 @@ fn bytes_of(digits: &[u8], out: &mut [u8; ROOM]) -> usize {
 }
 
 // Answers a case with these bytes, of which there are NO_CASE where it is none.
-fn answer(t: Table, letter: u8, bytes: &[u8; ROOM], count: usize) -> Table {
+fn answer(
+    rt: &impl Print,
+    t: Table,
+    letter: u8,
+    bytes: &[u8; ROOM],
+    count: usize,
+) -> io::Result<Table> {
     if count == NO_CASE {
-        cases::bad_case();
-        return t;
+        cases::bad_case(rt)?;
+        return Ok(t);
     }
-    engine_cases::run(t, letter, cases::front(bytes, count))
+    engine_cases::run(rt, t, letter, cases::front(bytes, count))
 }
 
 // Answers a case on a line of its own: its letter, and the digits behind it.
-fn case(t: Table, letter: u8, digits: &[u8]) -> Table {
+fn case(rt: &impl Print, t: Table, letter: u8, digits: &[u8]) -> io::Result<Table> {
     let mut bytes = [0; ROOM];
     let count = bytes_of(digits, &mut bytes);
-    text(b"  ");
-    let next = answer(t, letter, &bytes, count);
-    text(b"\n");
-    next
+    text(rt, b"  ")?;
+    let next = answer(rt, t, letter, &bytes, count)?;
+    text(rt, b"\n")?;
+    Ok(next)
 }
 
 // Echoes a line, and answers it unless it is empty or a heading.
-fn line(t: Table, l: &[u8]) -> Table {
-    text(l);
-    text(b"\n");
+fn line(rt: &impl Print, t: Table, l: &[u8]) -> io::Result<Table> {
+    text(rt, l)?;
+    text(rt, b"\n")?;
     if l.len() == 0 {
-        return t;
+        return Ok(t);
     }
     if l[0] == b'#' {
-        return t;
+        return Ok(t);
     }
-    case(t, l[0], &l[1..])
+    case(rt, t, l[0], &l[1..])
 }
 
 // Where the line that starts at a place ends.
@@ -124,38 +132,51 @@ fn end_of(t: &[u8], from: usize) -> usize
 }
 
 // Takes the lines one by one. The table is all zero at first.
-fn lines(text: &[u8]) {
+fn lines(rt: &impl Print, text: &[u8]) -> io::Result<()> {
     let mut t = Table::zero();
     let mut at = 0;
     while at < text.len() {
         let end = end_of(text, at);
-        t = line(t, &text[at..end]);
+        t = line(rt, t, &text[at..end])?;
         at = end + 1;
     }
+    Ok(())
+}
+
+// Fills the buffer from its front until it is full or the input ends, and answers how many bytes were read.
+fn read_full(from: &mut impl Read, buf: &mut [u8]) -> io::Result<usize>
+    ensures { IfOk result (λ n. n ≤ length buf.new) }
+{
+    let mut done = 0;
+    while done < buf.len() {
+        let n = from.read(&mut buf[done..])?;
+        if n == 0 {
+            break;
+        }
+        done += n;
+    }
+    Ok(done)
 }
 
 // Takes the lines of an open file, up to 65,536 bytes.
-fn run_file(fd: i32) {
-    let mut buffer = io::large_buffer();
-    let count = io::read_full(fd, &mut buffer);
-    lines(&buffer[..count]);
+fn run_file(rt: &impl Print, file: &mut impl Read) -> io::Result<()> {
+    let mut buffer = [0u8; 65536];
+    let count = read_full(file, &mut buffer)?;
+    lines(rt, &buffer[..count])
 }
 
 // Takes the lines of a file.
-fn run_named(name: &[u8]) {
-    let fd = os::open_read(name);
-    if fd < 0 {
-        text(name);
-        text(b" missing\n");
-        return;
-    }
-    run_file(fd);
-    libc::close(fd);
+fn run_named(rt: &(impl Files + Print), name: &str) -> io::Result<()> {
+    let Ok(mut file) = fs::open(rt, name) else {
+        text(rt, name.as_bytes())?;
+        return text(rt, b" missing\n");
+    };
+    run_file(rt, &mut file)
 }
 
-fn main() {
-    run_file(STDIN_FILENO);
-    run_named(b"confirmed");
-    run_named(b"ended");
-    run_named(b"held");
+fn main(rt: HostRuntime) -> io::Result<()> {
+    run_file(&rt, &mut rt.reader())?;
+    run_named(&rt, "confirmed")?;
+    run_named(&rt, "ended")?;
+    run_named(&rt, "held")
 }

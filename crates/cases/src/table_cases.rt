@@ -2,6 +2,7 @@
 use crate::cases::bad_case;
 use crate::engine_cases::{arrival, has};
 use crate::print::{counted, counted_if, decimal, hex, hex_long, hex_map, hex_word, text, word_if};
+use std::io;
 use table::{Aca, Attention, PATHS, Path, Table, UNITS, Unit};
 use task::map::is_live;
 use task::{Kind, Phase, RECORDS, Sequel, Task};
@@ -29,137 +30,139 @@ fn no_path(a: Path) -> bool {
 }
 
 // A path's id, mark and attention.
-fn path_fields(a: Path) {
-    hex_long(a.id);
-    word_if(b" full", a.full);
+fn path_fields(rt: &impl Print, a: Path) -> io::Result<()> {
+    hex_long(rt, a.id)?;
+    word_if(rt, b" full", a.full)?;
     let pending = a.attention;
     match pending {
-        Attention::Nothing => {}
-        Attention::Reset => text(b" reset"),
-        Attention::Cleared => text(b" cleared"),
+        Attention::Nothing => Ok(()),
+        Attention::Reset => text(rt, b" reset"),
+        Attention::Cleared => text(rt, b" cleared"),
     }
 }
 
 // The path at a place, where it is listed or not all zero.
-fn show_path(count: u8, p: usize, a: Path) {
+fn show_path(rt: &impl Print, count: u8, p: usize, a: Path) -> io::Result<()> {
     if p < count as usize {
-        text(b"; path ");
-        path_fields(a);
-        return;
+        text(rt, b"; path ")?;
+        return path_fields(rt, a);
     }
     if no_path(a) {
-        return;
+        return Ok(());
     }
-    text(b"; unused ");
-    decimal(p);
-    text(b" ");
-    path_fields(a);
+    text(rt, b"; unused ")?;
+    decimal(rt, p)?;
+    text(rt, b" ")?;
+    path_fields(rt, a)
 }
 
-fn show_paths(t: Table) {
+fn show_paths(rt: &impl Print, t: Table) -> io::Result<()> {
     let mut p: usize = 0;
     while p < PATHS {
-        show_path(t.count, p, t.path_at(p));
+        show_path(rt, t.count, p, t.path_at(p))?;
         p += 1;
     }
+    Ok(())
 }
 
 // A unit that has ACA, and the owner's place.
-fn show_unit(u: u8, a: Unit) {
+fn show_unit(rt: &impl Print, u: u8, a: Unit) -> io::Result<()> {
     let aca = a.aca;
     match aca {
-        Aca::Clear => {}
+        Aca::Clear => Ok(()),
         Aca::Owned(p) => {
-            counted(b"; aca ", u as u64);
-            counted(b" of ", p as u64);
+            counted(rt, b"; aca ", u as u64)?;
+            counted(rt, b" of ", p as u64)
         }
     }
 }
 
-fn show_units(t: Table) {
+fn show_units(rt: &impl Print, t: Table) -> io::Result<()> {
     let mut u: u8 = 0;
     while u < 8 {
-        show_unit(u, t.unit_at(u));
+        show_unit(rt, u, t.unit_at(u))?;
         u += 1;
     }
+    Ok(())
 }
 
-fn kind_word(k: Kind) {
+fn kind_word(rt: &impl Print, k: Kind) -> io::Result<()> {
     match k {
-        Kind::Aca => text(b" aca"),
-        Kind::Head => text(b" head"),
-        Kind::Ordered => text(b" ordered"),
-        Kind::Simple => text(b" simple"),
+        Kind::Aca => text(rt, b" aca"),
+        Kind::Head => text(rt, b" head"),
+        Kind::Ordered => text(rt, b" ordered"),
+        Kind::Simple => text(rt, b" simple"),
     }
 }
 
-fn phase_word(p: Phase) {
+fn phase_word(rt: &impl Print, p: Phase) -> io::Result<()> {
     match p {
-        Phase::Waiting => text(b" waiting "),
-        Phase::Running => text(b" running "),
-        Phase::Unconfirmed => text(b" unconfirmed "),
+        Phase::Waiting => text(rt, b" waiting "),
+        Phase::Running => text(rt, b" running "),
+        Phase::Unconfirmed => text(rt, b" unconfirmed "),
     }
 }
 
 // A record's position, where it is not zero: bytes transferred while the task waits to be confirmed, else an offset.
-fn position_word(p: Phase, position: u64) {
+fn position_word(rt: &impl Print, p: Phase, position: u64) -> io::Result<()> {
     match p {
-        Phase::Waiting => counted_if(b" offset ", position),
-        Phase::Running => counted_if(b" offset ", position),
-        Phase::Unconfirmed => counted_if(b" transferred ", position),
+        Phase::Waiting => counted_if(rt, b" offset ", position),
+        Phase::Running => counted_if(rt, b" offset ", position),
+        Phase::Unconfirmed => counted_if(rt, b" transferred ", position),
     }
 }
 
 // A record's path, tag, unit, kind, phase and arrival number; what it keeps for CONFIRM, where that is not zero.
-fn task_fields(a: Task) {
-    counted(b" path ", a.path as u64);
-    text(b" tag ");
-    hex_word(a.tag);
-    counted(b" unit ", a.unit as u64);
+fn task_fields(rt: &impl Print, a: Task) -> io::Result<()> {
+    counted(rt, b" path ", a.path as u64)?;
+    text(rt, b" tag ")?;
+    hex_word(rt, a.tag)?;
+    counted(rt, b" unit ", a.unit as u64)?;
     let kind = a.kind;
-    kind_word(kind);
+    kind_word(rt, kind)?;
     let phase = a.phase;
-    phase_word(phase);
-    crate::print::number(a.arrival);
+    phase_word(rt, phase)?;
+    crate::print::number(rt, a.arrival)?;
     let sequel = a.sequel;
-    word_if(b" confirm", task::has_confirm(sequel));
-    position_word(phase, a.position);
+    word_if(rt, b" confirm", task::has_confirm(sequel))?;
+    position_word(rt, phase, a.position)
 }
 
 // The record at a place, where it is live or not all zero.
-fn show_task(live: u64, i: usize, a: Task) {
+fn show_task(rt: &impl Print, live: u64, i: usize, a: Task) -> io::Result<()> {
     if is_live(live, i) {
-        text(b"; task ");
+        text(rt, b"; task ")?;
     } else {
         if sound::clauses::is_no_task(a) {
-            return;
+            return Ok(());
         }
-        text(b"; dead ");
+        text(rt, b"; dead ")?;
     }
-    decimal(i);
-    task_fields(a);
+    decimal(rt, i)?;
+    task_fields(rt, a)
 }
 
-fn show_tasks(t: Table) {
+fn show_tasks(rt: &impl Print, t: Table) -> io::Result<()> {
     let mut i: usize = 0;
     while i < RECORDS {
-        show_task(t.live, i, t.task_at(i));
+        show_task(rt, t.live, i, t.task_at(i))?;
         i += 1;
     }
+    Ok(())
 }
 
 // The table: all of it that is not zero.
-pub(crate) fn show(t: Table) {
-    word_if(b"not ", !sound::is_sound(t));
-    counted(b"sound next ", t.next);
-    counted(b" count ", t.count as u64);
-    text(b" attached ");
-    hex(t.attached);
-    text(b" live ");
-    hex_map(t.live);
-    show_paths(t);
-    show_units(t);
-    show_tasks(t);
+pub(crate) fn show(rt: &impl Print, t: Table) -> io::Result<()> {
+    word_if(rt, b"not ", !sound::is_sound(t))?;
+    counted(rt, b"sound next ", t.next)?;
+    counted(rt, b" count ", t.count as u64)?;
+    text(rt, b" attached ")?;
+    hex(rt, t.attached)?;
+    text(rt, b" live ")?;
+    hex_map(rt, t.live)?;
+    show_paths(rt, t)?;
+    show_units(rt, t)?;
+    show_tasks(rt, t)
 }
 
 // The fields that can be set: of the table, of a path, of a unit, of a record.
@@ -418,16 +421,16 @@ fn set(t: Table, field: u8, i: usize, value: u8) -> Table {
 }
 
 // Letter !: a field set, from its number, the place and the value.
-pub(crate) fn poke(t: Table, c: &[u8]) -> Table {
-    if !has(c, 3) {
-        return t;
+pub(crate) fn poke(rt: &impl Print, t: Table, c: &[u8]) -> io::Result<Table> {
+    if !has(rt, c, 3)? {
+        return Ok(t);
     }
     let field = byte_at(c, 0);
     let i = byte_at(c, 1) as usize;
     if i >= places(field) {
-        bad_case();
-        return t;
+        bad_case(rt)?;
+        return Ok(t);
     }
-    text(b"set");
-    set(t, field, i, byte_at(c, 2))
+    text(rt, b"set")?;
+    Ok(set(t, field, i, byte_at(c, 2)))
 }

@@ -3,8 +3,11 @@
 // alone. tools/stack reads the built program.
 #![tactic(auto)]
 
+ghost use Rattle.std.specs.Prelude.{◌≤◌, length, IfOk};
+
 use engine::calls::{finish, message, setup, start, total_reset};
-use libc::{STDIN_FILENO, STDOUT_FILENO};
+use std::io;
+use std::io::Read;
 use table::Table;
 use task::map::live_count;
 
@@ -50,16 +53,31 @@ fn calls_again(b: [u8; 64], reply: &mut [u8; 64]) -> Table {
     o.table
 }
 
-fn say(word: &[u8], t: Table) {
-    io::write_all(STDOUT_FILENO, word);
-    io::print_decimal(STDOUT_FILENO, live_count(t.live) as u64);
+fn say(rt: &impl Print, word: &[u8], t: Table) -> io::Result<()> {
+    rt.write_all(word)?;
+    rt.print(live_count(t.live) as u64)
 }
 
-fn main() {
+// Fills the buffer from its front until it is full or the input ends, and answers how many bytes were read.
+fn read_full(from: &mut impl Read, buf: &mut [u8]) -> io::Result<usize>
+    ensures { IfOk result (λ n. n ≤ length buf.new) }
+{
+    let mut done = 0;
+    while done < buf.len() {
+        let n = from.read(&mut buf[done..])?;
+        if n == 0 {
+            break;
+        }
+        done += n;
+    }
+    Ok(done)
+}
+
+fn main(rt: HostRuntime) -> io::Result<()> {
     let mut b = [0u8; 64];
-    io::read_full(STDIN_FILENO, &mut b);
+    read_full(&mut rt.reader(), &mut b)?;
     let mut reply = [0u8; 64];
-    say(b"live ", calls(b, &mut reply));
-    say(b" ", calls_again(b, &mut reply));
-    io::write_all(STDOUT_FILENO, b"\n");
+    say(&rt, b"live ", calls(b, &mut reply))?;
+    say(&rt, b" ", calls_again(b, &mut reply))?;
+    rt.write_all(b"\n")
 }

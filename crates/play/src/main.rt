@@ -2,12 +2,15 @@
 // last line.
 #![tactic(auto)]
 
-use libc::{STDIN_FILENO, STDOUT_FILENO};
+ghost use Rattle.std.specs.Prelude.{◌≤◌, length, IfOk};
+
+use std::io;
+use std::io::Read;
 use transcript::play::Player;
 
 // Plays the input. Before the events stands a header of four bytes at least, and an event has one at least: so a turn
 // for each byte is enough to come to the end.
-fn play(s: &[u8]) {
+fn play(rt: &impl Print, s: &[u8]) -> io::Result<()> {
     let mut line = [0u8; 64];
     let mut p = transcript::play::open(s);
     let mut left: usize = s.len();
@@ -18,28 +21,44 @@ fn play(s: &[u8]) {
         if wrote == 0 {
             break;
         }
-        put(&line, wrote);
+        put(rt, &line, wrote)?;
         left -= 1;
     }
-    close(p);
+    close(rt, p)
 }
 
 // Writes the last line.
-fn close(p: Player) {
+fn close(rt: &impl Print, p: Player) -> io::Result<()> {
     let mut line = [0u8; 64];
     let wrote = transcript::play::close(p, &mut line);
-    put(&line, wrote);
+    put(rt, &line, wrote)
 }
 
 // Writes the first n bytes of a line.
-fn put(line: &[u8], n: usize) {
+fn put(rt: &impl Print, line: &[u8], n: usize) -> io::Result<()> {
     if n <= line.len() {
-        io::write_all(STDOUT_FILENO, &line[..n]);
+        rt.write_all(&line[..n])?;
     }
+    Ok(())
 }
 
-fn main() {
+// Fills the buffer from its front until it is full or the input ends, and answers how many bytes were read.
+fn read_full(from: &mut impl Read, buf: &mut [u8]) -> io::Result<usize>
+    ensures { IfOk result (λ n. n ≤ length buf.new) }
+{
+    let mut done = 0;
+    while done < buf.len() {
+        let n = from.read(&mut buf[done..])?;
+        if n == 0 {
+            break;
+        }
+        done += n;
+    }
+    Ok(done)
+}
+
+fn main(rt: HostRuntime) -> io::Result<()> {
     let mut input = [0u8; 65537];
-    let n = io::read_full(STDIN_FILENO, &mut input);
-    play(&input[..n]);
+    let n = read_full(&mut rt.reader(), &mut input)?;
+    play(&rt, &input[..n])
 }

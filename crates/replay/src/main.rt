@@ -2,15 +2,19 @@
 // The file `names` has one name a line; NAME.in is an input, NAME.out its text.
 #![tactic(auto)]
 
-use libc::STDOUT_FILENO;
+ghost use Rattle.std.specs.Prelude.{◌≤◌, length, IfOk};
+
+use std::io::Read;
+use std::rt::Files;
+use std::{fs, io};
 use transcript::play::Player;
 
-fn say(text: &[u8]) {
-    io::write_all(STDOUT_FILENO, text);
+fn say(rt: &impl Print, text: &[u8]) -> io::Result<()> {
+    rt.write_all(text)
 }
 
-fn say_number(n: usize) {
-    io::print_decimal(STDOUT_FILENO, n as u64);
+fn say_number(rt: &impl Print, n: usize) -> io::Result<()> {
+    rt.print(n as u64)
 }
 
 // The part from one place up to another, and an empty one where that is none.
@@ -51,22 +55,28 @@ fn same(a: &[u8], b: &[u8]) -> bool {
 }
 
 // Whether a line is the expected one; says where it is not.
-fn agrees(name: &[u8], number: usize, expected: &[u8], printed: &[u8]) -> bool {
+fn agrees(
+    rt: &impl Print,
+    name: &[u8],
+    number: usize,
+    expected: &[u8],
+    printed: &[u8],
+) -> io::Result<bool> {
     if same(expected, printed) {
-        return true;
+        return Ok(true);
     }
-    say(name);
-    say(b" differs at line ");
-    say_number(number);
-    say(b"\n");
-    say(expected);
-    say(printed);
-    false
+    say(rt, name)?;
+    say(rt, b" differs at line ")?;
+    say_number(rt, number)?;
+    say(rt, b"\n")?;
+    say(rt, expected)?;
+    say(rt, printed)?;
+    Ok(false)
 }
 
 // Plays an input. Before the events stands a header of four bytes at least, and an event has one at least: so fewer
 // turns than bytes are enough to come to the end.
-fn plays(name: &[u8], s: &[u8], text: &[u8]) -> bool {
+fn plays(rt: &impl Print, name: &[u8], s: &[u8], text: &[u8]) -> io::Result<bool> {
     let mut line = [0u8; 64];
     let mut p = transcript::play::open(s);
     let mut at: usize = 0;
@@ -79,20 +89,26 @@ fn plays(name: &[u8], s: &[u8], text: &[u8]) -> bool {
             break;
         }
         let next = line_after(text, at);
-        if !agrees(name, number, part(text, at, next), part(&line, 0, wrote)) {
-            return false;
+        if !agrees(
+            rt,
+            name,
+            number,
+            part(text, at, next),
+            part(&line, 0, wrote),
+        )? {
+            return Ok(false);
         }
         at = next;
         number += 1;
     }
-    closes(name, number, p, part(text, at, text.len()))
+    closes(rt, name, number, p, part(text, at, text.len()))
 }
 
 // Whether the last line is all that is left of the text.
-fn closes(name: &[u8], number: usize, p: Player, rest: &[u8]) -> bool {
+fn closes(rt: &impl Print, name: &[u8], number: usize, p: Player, rest: &[u8]) -> io::Result<bool> {
     let mut line = [0u8; 64];
     let wrote = transcript::play::close(p, &mut line);
-    agrees(name, number, rest, part(&line, 0, wrote))
+    agrees(rt, name, number, rest, part(&line, 0, wrote))
 }
 
 // Puts a word into a path, and answers the place after it.
@@ -110,42 +126,57 @@ fn put(path: &mut [u8], at: usize, word: &[u8]) -> usize {
     to
 }
 
-// Opens the file of a name; one whose path does not fit is missing.
-fn open(name: &[u8], ending: &[u8]) -> i32 {
+// Opens the file of a name; one whose path does not fit or is no text is missing.
+fn open<R: Files>(rt: &R, name: &[u8], ending: &[u8]) -> Option<R::File> {
     let mut path = [0u8; 64];
     let n = put(&mut path, 0, name);
     let n = put(&mut path, n, ending);
     if n >= 64 {
-        return -1;
+        return None;
     }
-    os::open_read(part(&path, 0, n))
+    let path = str::from_utf8(part(&path, 0, n)).ok()?;
+    fs::open(rt, path).ok()
 }
 
-fn read(fd: i32, buf: &mut [u8]) -> usize {
-    let n = io::read_full(fd, buf);
-    libc::close(fd);
-    n
+// Fills the buffer from its front until it is full or the input ends, and answers how many bytes were read.
+fn read_full(from: &mut impl Read, buf: &mut [u8]) -> io::Result<usize>
+    ensures { IfOk result (λ n. n ≤ length buf.new) }
+{
+    let mut done = 0;
+    while done < buf.len() {
+        let n = from.read(&mut buf[done..])?;
+        if n == 0 {
+            break;
+        }
+        done += n;
+    }
+    Ok(done)
+}
+
+// Reads a file, and closes it.
+fn read(mut file: impl Read + Drop, buf: &mut [u8]) -> io::Result<usize> {
+    read_full(&mut file, buf)
 }
 
 // One transcript: whether it is the same.
-fn replay(name: &[u8]) -> bool {
-    let input = open(name, b".in");
-    let output = open(name, b".out");
-    if input < 0 || output < 0 {
-        say(name);
-        say(b" missing\n");
-        return false;
-    }
+fn replay(rt: &(impl Files + Print), name: &[u8]) -> io::Result<bool> {
+    let input = open(rt, name, b".in");
+    let output = open(rt, name, b".out");
+    let (Some(input), Some(output)) = (input, output) else {
+        say(rt, name)?;
+        say(rt, b" missing\n")?;
+        return Ok(false);
+    };
     let mut s = [0u8; 65537];
     let mut text = [0u8; 65536];
-    let n = read(input, &mut s);
-    let m = read(output, &mut text);
-    if !plays(name, part(&s, 0, n), part(&text, 0, m)) {
-        return false;
+    let n = read(input, &mut s)?;
+    let m = read(output, &mut text)?;
+    if !plays(rt, name, part(&s, 0, n), part(&text, 0, m))? {
+        return Ok(false);
     }
-    say(name);
-    say(b" same\n");
-    true
+    say(rt, name)?;
+    say(rt, b" same\n")?;
+    Ok(true)
 }
 
 // A line without its end.
@@ -156,7 +187,7 @@ fn bare(line: &[u8]) -> &[u8] {
     part(line, 0, line.len() - 1)
 }
 
-fn replay_all(names: &[u8]) {
+fn replay_all(rt: &(impl Files + Print), names: &[u8]) -> io::Result<()> {
     let mut at: usize = 0;
     let mut all: usize = 0;
     let mut good: usize = 0;
@@ -165,25 +196,23 @@ fn replay_all(names: &[u8]) {
         if next <= at {
             break;
         }
-        if replay(bare(part(names, at, next))) {
+        if replay(rt, bare(part(names, at, next)))? {
             good += 1;
         }
         all += 1;
         at = next;
     }
-    say_number(all);
-    say(b" transcripts, ");
-    say_number(good);
-    say(b" same\n");
+    say_number(rt, all)?;
+    say(rt, b" transcripts, ")?;
+    say_number(rt, good)?;
+    say(rt, b" same\n")
 }
 
-fn main() {
-    let fd = os::open_read(b"names");
-    if fd < 0 {
-        say(b"names missing\n");
-        return;
-    }
-    let mut names = io::buffer();
-    let n = read(fd, &mut names);
-    replay_all(part(&names, 0, n));
+fn main(rt: HostRuntime) -> io::Result<()> {
+    let Ok(file) = fs::open(&rt, "names") else {
+        return say(&rt, b"names missing\n");
+    };
+    let mut names = [0u8; 65536];
+    let n = read(file, &mut names)?;
+    replay_all(&rt, part(&names, 0, n))
 }

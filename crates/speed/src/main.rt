@@ -6,8 +6,9 @@ mod messages;
 mod tally;
 
 use engine::calls::{message, setup};
-use libc::{STDIN_FILENO, STDOUT_FILENO};
 use messages::{abort_task, clear_task_set, command};
+use std::io;
+use std::io::Read;
 use table::Table;
 use tally::Tally;
 use task::map::live_count;
@@ -94,10 +95,10 @@ fn clears(r: Run, reply: &mut [u8; 64]) -> Run {
 }
 
 // The first byte of standard input, and 0 where there is none.
-fn asked() -> u8 {
+fn asked(rt: &impl Input) -> io::Result<u8> {
     let mut b = [0u8; 1];
-    io::read_full(STDIN_FILENO, &mut b);
-    b[0]
+    rt.reader().read(&mut b)?;
+    Ok(b[0])
 }
 
 // The 100,000 messages that are asked for.
@@ -109,18 +110,18 @@ fn measured(r: Run, which: u8, reply: &mut [u8; 64]) -> Run {
 }
 
 // The line.
-fn say(t: Table, tally: Tally) {
-    tally::say_all(tally);
-    tally::say(b" live ", live_count(t.live) as u64);
-    io::write_all(STDOUT_FILENO, b"\n");
+fn say(rt: &impl Print, t: Table, tally: Tally) -> io::Result<()> {
+    tally::say_all(rt, tally)?;
+    tally::say(rt, b" live ", live_count(t.live) as u64)?;
+    rt.write_all(b"\n")
 }
 
-fn main() {
+fn main(rt: HostRuntime) -> io::Result<()> {
     let mut reply = [0u8; 64];
     let o = setup(&[1, 2], 0x03, 1);
     let table = o.table;
     let tally = tally::empty();
     let filled = fill(Run { table, tally }, &mut reply);
-    let r = measured(Run { tally, ..filled }, asked(), &mut reply);
-    say(r.table, r.tally);
+    let r = measured(Run { tally, ..filled }, asked(&rt)?, &mut reply);
+    say(&rt, r.table, r.tally)
 }

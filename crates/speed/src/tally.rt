@@ -1,7 +1,7 @@
 // How many messages were answered in each of the four ways, how many commands they ended, and how often a unit had to
 // stop.
-use libc::STDOUT_FILENO;
 use plan::Answer;
+use std::io;
 use std::num::wrapping_add_u64;
 use task::map::live_count;
 use wire::codes::ReturnCode;
@@ -72,17 +72,17 @@ pub(crate) fn add_ended(t: Tally, ended: u64, stops: u8) -> Tally {
 }
 
 // A word, and the number behind it.
-pub(crate) fn say(word: &[u8], n: u64) {
-    io::write_all(STDOUT_FILENO, word);
-    io::print_decimal(STDOUT_FILENO, n);
+pub(crate) fn say(rt: &impl Print, word: &[u8], n: u64) -> io::Result<()> {
+    rt.write_all(word)?;
+    rt.print(n)
 }
 
 // The numbers.
-pub(crate) fn say_all(t: Tally) {
-    say(b"accepted ", t.accepted);
-    say(b" 00h ", t.done);
-    say(b" 04h ", t.overlapped);
-    say(b" 01h ", t.not_found);
-    say(b" ended ", t.ended);
-    say(b" stopped ", t.stopped);
+pub(crate) fn say_all(rt: &impl Print, t: Tally) -> io::Result<()> {
+    say(rt, b"accepted ", t.accepted)?;
+    say(rt, b" 00h ", t.done)?;
+    say(rt, b" 04h ", t.overlapped)?;
+    say(rt, b" 01h ", t.not_found)?;
+    say(rt, b" ended ", t.ended)?;
+    say(rt, b" stopped ", t.stopped)
 }
