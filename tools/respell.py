@@ -16,7 +16,8 @@ TOKEN = re.compile(r"(?<![\w'′·-])[A-Za-z_][\w'′]*(?:-[\w'′]+)*(?![\w'′
 WORDS = r"(?:abbrev|unfoldable|pub|data|record|ruleset|private|opaque)\s+"
 DECLARED = re.compile(r"^\s*(?:" + WORDS + r")*([A-Za-z_][\w'′-]*)(?=[^=]*?\s:(?:\s|$))")
 NAMED = re.compile(r"^\s*(?:pub )?(?:ruleset|data|record)\s+([A-Za-z_][\w'′-]*)")
-NOT_NAMES = {"module", "let", "in", "use", "where", "record", "mod", "data", "ghost", "pub"}
+NOT_NAMES = {"module", "let", "in", "use", "where", "record", "mod", "data", "ghost", "pub",
+             "not-true"}  # the last is the library's: a line of a proof begins with it
 
 # lemmas whose snake form would fall together with the name of the definition that they are about
 LAWS = """abort-answer holds-queue on-unit owned-by altered-at done-by weight-at confirmed-two-hosts two-hosts response-length
@@ -57,6 +58,10 @@ def snake(name):
     return re.sub(r"([a-z0-9])([A-Z])", lambda m: m.group(1) + "_" + m.group(2).lower(), name).lower()
 
 
+# a path or the name of a file
+A_FILE = re.compile(r"/[\w-]*-|-[\w-]*\.(?:in|out|hex|md|antt|rt|edit)\b")
+
+
 def of_a_walk(path):
     return path.endswith("/Proof.antt")
 
@@ -87,7 +92,9 @@ def respelled(text, names, comments):
     for line in text.split("\n"):
         code, note = halves(line, comments)
         code = TOKEN.sub(lambda m: snake(m.group(0)) if m.group(0) in names else m.group(0), code)
-        # in a comment a name with a dash may be plain English: it stays unless it is quoted
+        # in a comment a name with a dash may be plain English: it stays unless it is quoted, or listed at a file's head
+        if note.startswith("--     "):
+            note = TOKEN.sub(lambda m: snake(m.group(0)) if m.group(0) in names else m.group(0), note)
         note = re.sub(r"`[^`]*`", lambda q: TOKEN.sub(lambda m: snake(m.group(0)) if m.group(0) in names else m.group(0), q.group(0)), note)
         note = TOKEN.sub(lambda m: snake(m.group(0)) if m.group(0) in names and "-" not in m.group(0) else m.group(0), note)
         out.append(code + note)
@@ -124,6 +131,8 @@ def pages():
     now = set()
     for path in sources():
         now |= declared(path)
+    # names of transcripts and examples are those of files
+    files = {f.split(".")[0] for folder in ("examples", "crates/replay/data") if os.path.isdir(folder) for f in os.listdir(folder)}
     for folder, dirs, files in os.walk("."):
         dirs[:] = sorted(d for d in dirs if d not in ("out", ".git"))
         for f in sorted(files):
@@ -134,12 +143,13 @@ def pages():
                 old = it.read()
 
             def turned(m):
-                return snake(m.group(0)) if odd(m.group(0)) and snake(m.group(0)) in now else m.group(0)
+                name = m.group(0)
+                return snake(name) if odd(name) and name not in files and snake(name) in now else name
 
             if f.endswith(".edit"):
                 new = TOKEN.sub(turned, old)
             else:
-                new = re.sub(r"`[^`\n]*`", lambda q: TOKEN.sub(turned, q.group(0)), old)
+                new = re.sub(r"`[^`\n]*`", lambda q: q.group(0) if A_FILE.search(q.group(0)) else TOKEN.sub(turned, q.group(0)), old)
             if new != old:
                 with open(path, "w", encoding="utf-8") as it:
                     it.write(new)

@@ -1,9 +1,9 @@
 -- The calls: a lemma for each way out. Assumes nothing.
 --     gates      for `search`, a call that makes one test after another, under `unfolding` of its definition: what it refuses, and what comes after the last test
 --     heard_all      what comes after the last test of `heard`;        chosen      what a start picks
---     plan-ways, step-ways, go-ways, may-ways, setup-ways      for `search`, the ways out of the functions so named
---     unread, others-sought, none-sought, read_by, read-by-unit, carries-nothing, carries-out, carries-order, carries      a message: the plan for what was heard, the table after it, and the outcome
---     starts, finishes, reset-refused, resets      the outcome, by what was asked of the table, the verdict and the step
+--     plan_ways, step_ways, go_ways, may_ways, setup_ways      for `search`, the ways out of the functions so named
+--     unread, others_sought, none_sought, read_by, read_by_unit, carries_nothing, carries_out, carries_order, carries      a message: the plan for what was heard, the table after it, and the outcome
+--     starts, finishes, reset_refused, resets      the outcome, by what was asked of the table, the verdict and the step
 --     answers      the contract of a call with a reply buffer
 use Prim.Native.Nat.{ℕ, ◌<◌, ◌≤◌}
 use mathlib.Core.Path.{◌≡◌, refl, sym, ap, ◌∙◌}

@@ -1,6 +1,6 @@
 -- The units that have to stop: `stops` is the units on which a task of `ended` ran, by any call but a finish. Assumes
 -- nothing.
---     message-stops      on a sound table;        start-stops, reset-stops      on any;        finish-stops      nothing has to stop
+--     message_stops      on a sound table;        start_stops, reset_stops      on any;        finish_stops      nothing has to stop
 use Prim.Native.Nat.{ℕ, ◌^◌, ◌<◌}
 use mathlib.Core.Path.{◌≡◌, refl, sym, ap, ◌∙◌}
 use mathlib.Core.Bool.{Bool, true, false, not, ◌&&◌, and-false}

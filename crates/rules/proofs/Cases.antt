@@ -1,7 +1,7 @@
 -- The tests of the rules, what the rules ask of the table, the first rule that applies, and the return code of an
 -- order: a lemma for each way out of the functions of `rules` and `manage`. Assumes nothing.
 --     hit, skip      a rule whose test the code makes by a call
---     hit-it, skip-it      a rule whose test is a fact as it stands
+--     hit_it, skip_it      a rule whose test is a fact as it stands
 use Prim.Native.Nat.{ℕ}
 use mathlib.Core.Path.{◌≡◌, refl, sym, ◌∙◌}
 use mathlib.Core.Bool.{Bool, true, false, cond, not, not-not}

@@ -1,7 +1,7 @@
 -- The answers of the functions on the map of what was seen: a lemma for each way out, and for each turn of the walk.
 -- Assumes nothing.
---     set-ways        for `search`, the ways out of the function that sets a bit
---     clash-ways      for `search`, the ways out of the one that asks for a task's bits
+--     set_ways        for `search`, the ways out of the function that sets a bit
+--     clash_ways      for `search`, the ways out of the one that asks for a task's bits
 use Prim.Native.Nat.{ℕ, ◌+◌, ◌/◌, ◌%◌, ◌≤◌}
 use mathlib.Core.Path.{◌≡◌, sym, ap, ◌∙◌}
 use mathlib.Core.Bool.{Bool, true, false, not, ◌&&◌}

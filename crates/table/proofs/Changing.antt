@@ -1,8 +1,8 @@
 -- The answers of paths, units and changes: a lemma for each way out, and for each turn of a loop. Assumes nothing.
 --     bounded                  for `search`, a choice by a bound
---     path-loop, end-loop      for `search (needs, ..)`, the turns of the loops over the paths and over the records
---     others-loop      for `search`, the start, the bound and the end of the loop over the others; its turns are others-add and others-skip
---     aca-ways, room-ways, alter-ways      for `search`, the ways out of the functions on ACA, on room and acceptance, and on a record that changes
+--     path_loop, end_loop      for `search (rules, ..)`, the turns of the loops over the paths and over the records
+--     others_loop      for `search`, the start, the bound and the end of the loop over the others; its turns are others_add and others_skip
+--     aca_ways, room_ways, alter_ways      for `search`, the ways out of the functions on ACA, on room and acceptance, and on a record that changes
 use Prim.Native.Nat.{ℕ, ◌+◌, ◌^◌, ◌≤◌, ◌<◌}
 use mathlib.Core.Path.{◌≡◌, refl, sym, ap, ap₂, ◌∙◌}
 use mathlib.Core.Bool.{Bool, true, false, cond, not, ◌&&◌}

@@ -1,8 +1,8 @@
 -- One step of the records, what a finish makes of them, who has a task and where one runs. Assumes nothing.
---     altered-ways, step-ways      for `search`, the ways out of the functions so named, by the variant
---     finish-is-step, finish-of-none, finishes      a finish is a change of the units and a step: of a record, of none, and as `Table::finish` makes it
---     held-loop      for `search`, start and end of the loop that gathers who has a task;        found-more, found-same      its turns, with those of `Gathering`
---     running-all      the end of the loop that gathers where one runs;        other-as      the paths that have one on a unit
+--     altered_ways, step_ways      for `search`, the ways out of the functions so named, by the variant
+--     finish_is_step, finish_of_none, finishes      a finish is a change of the units and a step: of a record, of none, and as `Table::finish` makes it
+--     held_loop      for `search`, start and end of the loop that gathers who has a task;        found_more, found_same      its turns, with those of `Gathering`
+--     running_all      the end of the loop that gathers where one runs;        other_as      the paths that have one on a unit
 use Prim.Native.Nat.{ℕ, ◌+◌, ◌%◌, ◌≤◌, ◌<◌}
 use mathlib.Core.Path.{◌≡◌, refl, sym, ◌∙◌}
 use mathlib.Core.Bool.{Bool, true, false, not, ◌&&◌, or-true, or-false, and-true, and-false}

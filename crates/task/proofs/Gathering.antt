@@ -1,6 +1,6 @@
 -- A pass over the places that gathers a number of each place that a test picks: `gathered k` is the map of the numbers
 -- below 64 after k places. Assumes nothing.
---     gather-start, gather-more, gather-same      the turns of the loop;        low_byte      the numbers below 8, as a byte
+--     gather_start, gather_more, gather_same      the turns of the loop;        low_byte      the numbers below 8, as a byte
 use Prim.Native.Nat.{ℕ, ◌+◌, ◌%◌, ◌^◌, ◌<◌}
 use mathlib.Core.Path.{◌≡◌, refl, sym, ap, ◌∙◌}
 use mathlib.Core.Bool.{Bool, true, false, ◌||◌, ◌&&◌, or-true, or-false, and-true}

@@ -1,6 +1,6 @@
 -- What a loop over the places asks of `some`, `all`, `first` and `map_of`: its start, a turn that goes on, a turn that
 -- answers, its end. Assumes nothing.
---     some-loop, all-loop, first-loop      for `search`, where a turn's test is a call's answer b with b ≡ p i. The loop for `first` keeps the invariant of that for `some`
+--     some_loop, all_loop, first_loop      for `search`, where a turn's test is a call's answer b with b ≡ p i. The loop for `first` keeps the invariant of that for `some`
 use Prim.Native.Nat.{ℕ, zero, suc, ◌+◌, ◌*◌, ◌^◌, ◌≤◌, ◌<◌}
 use mathlib.Core.Path.{◌≡◌, refl, sym, ◌∙◌}
 use mathlib.Core.Bool.{Bool, true, false, cond, not}

@@ -1,7 +1,7 @@
 -- Tests: cases by a test's answer, and what a chain of early returns comes to, against `&&`, `||`, `not` and a
 -- choice. Assumes nothing.
 --     ways          for `search`, an answer by early returns: each test of the definition by the branch, or the call's answer, that told it
---     and-ways      the same where `&&` joins the answers of calls, and each `if` asks for the inverted one
+--     and_ways      the same where `&&` joins the answers of calls, and each `if` asks for the inverted one
 use Prim.Native.Nat.{ℕ, ◌<◌, ◌≤◌}
 use mathlib.Core.Path.{◌≡◌, refl, sym, ap, ◌∙◌}
 use mathlib.Core.Bool.{Bool, true, false, cond, not, ◌&&◌, ◌||◌}

@@ -1,6 +1,7 @@
 -- The answers are one: each by the law that an equation determines its left side.
 -- Assumes nothing.
-use mathlib.Core.Path.{◌≡◌, sym, ◌∙◌}
+use Rattle.std.proofs.Common.{ℕ, ◌++◌, take, drop}
+use mathlib.Core.Path.{◌≡◌, sym, ap, ◌∙◌}
 use Rattle.wire.specs.Unique.{AnswersAreOne}
 
 -- a contract that is an equation determines the answer
@@ -10,6 +11,7 @@ determined h l = h ∙ sym l
 pub answers_are_one : AnswersAreOne
 answers_are_one = record {
   byte_at_is_one = λ _ _ _ _. determined;
+  copy_is_one = λ bytes to x y k l c a d b. let e : x ≡ y = determined c d in (e, a ∙ ap (λ (n : ℕ). take n bytes ++ drop n to) e ∙ sym b);
   word_is_one = λ _ _ _ _. determined;
   read_is_one = λ _ _ _. determined;
   reserved_set_is_one = λ _ _ _. determined;

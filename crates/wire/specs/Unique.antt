@@ -1,5 +1,5 @@
 -- Each public function's contract determines its answer: two answers that are each what it says are equal.
-use Rattle.std.specs.Prelude.{ℕ, ◌≡◌, List}
+use Rattle.std.specs.Prelude.{ℕ, ◌≡◌, List, ◌++◌, length, take, drop, min}
 use Rattle.wire.specs.Fields.{byte, joined}
 use Rattle.wire.specs.Messages.{read_of, reserved_set}
 use Rattle.wire.specs.Block.{cut_short, no_block, linked, block_of}
@@ -10,6 +10,9 @@ One {A} said = (x y : A) → x ≡ said → y ≡ said → x ≡ y
 
 pub record AnswersAreOne : Type 0 where
   pub byte_at_is_one : (m : List ℕ) (at : ℕ) → One (byte m at)
+  pub copy_is_one : (bytes to : List ℕ) (x y : ℕ) (k l : List ℕ)
+      → x ≡ min (length bytes) (length to) → k ≡ take x bytes ++ drop x to
+      → y ≡ min (length bytes) (length to) → l ≡ take y bytes ++ drop y to → (x ≡ y) × (k ≡ l)
   pub word_is_one : (high low : ℕ) → One (joined high low)
   pub read_is_one : (m : List ℕ) → One (read_of m)
   pub reserved_set_is_one : (m : List ℕ) → One (reserved_set m)

@@ -1,4 +1,4 @@
-// Fields of a message: a byte, and numbers of two and four bytes, the high byte first.
+// Fields of a message: a byte, and numbers of two and four bytes, the high byte first. And bytes put into a buffer.
 ghost use Rattle.std.specs.Prelude.{◌≡◌, ◌+◌, ◌*◌, ◌++◌, length, take, drop, min};
 ghost use Rattle.wire.specs.Fields.{byte, joined};
 
