@@ -212,7 +212,7 @@ fn main(rt: HostRuntime) -> io::Result<()> {
     let Ok(file) = fs::open(&rt, "names") else {
         return say(&rt, b"names missing\n");
     };
-    let mut names = [0u8; 65536];
+    let mut names = [0u8; 4096];
     let n = read(file, &mut names)?;
     replay_all(&rt, part(&names, 0, n))
 }
