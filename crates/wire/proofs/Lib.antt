@@ -6,3 +6,4 @@ pub mod Unique
 mod Rows
 mod Masks
 mod Blocks
+pub mod Results

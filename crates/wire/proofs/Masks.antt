@@ -1,20 +1,19 @@
 -- The table of masks says what tables 5 and 11 say of the reserved fields, and a walk over a row's masks finds out
 -- which it is. Assumes nothing.
-use Prim.Native.Nat.{ℕ, ◌+◌, ◌*◌, ◌/◌, ◌%◌, ◌^◌, ◌≤◌, ◌<◌}
+use Prim.Native.Nat.{ℕ, zero, suc, ◌+◌, ◌*◌, ◌/◌, ◌%◌, ◌^◌, ◌≤◌, ◌<◌}
 use mathlib.Core.Path.{◌≡◌, refl, sym, ◌∙◌}
 use mathlib.Core.Bool.{Bool, true, false, ◌||◌, or-true}
 use mathlib.Core.List.{List, [], ◌∷◌}
 use lib.ListN.{get_or, replicate}
-use lib.Bits.{bit_and, and_zero_r, and_high, and_mask}
+use lib.Bits.{bit_and, and_zero_l, and_zero_r, and_high, and_mask}
 use lib.Dec.{ltb, eqb, lit<}
 use native.Mathlib.Omega.{arith}
 use mir.Syntax.{w8}
 use mir.Val.{Fits}
-use borrow.Author.Count.{below_none, below_more}
 use borrow.Author.Tests.{le-ltb, eq-eqb, ne_eqb, eqb-true, eqb-false, not-false}
 use Rattle.wire.specs.Codes.{scsi_command, confirm_status}
 use Rattle.wire.specs.Fields.{byte}
-use Rattle.wire.specs.Messages.{rows, row_in, row_of, command_reserved, confirm_reserved, reserved_set}
+use Rattle.wire.specs.Messages.{rows, row_of, row_found, command_reserved, confirm_reserved, any_masked, reserved_set}
 use Rattle.wire.proofs.Table.{every, at, cond_ind, neither}
 
 -- a mask for each of the first 17 bytes, with the reserved bits set: a command's, CONFIRM STATUS's, then those of the
@@ -95,14 +94,14 @@ module _ (m : List ℕ) where
       (at 0 (λ i x. eqb (bit_and (byte m i) x) 0) confirm (simp (and_zero_r, and_mask (byte m 16) 7, z)) k (λ _. eq-eqb _ _ (and_zero_r (byte m k))))
 
   -- and nowhere else
-  all_zero : ((k : ℕ) → Fits w8 (byte m k)) → ((k : ℕ) → k < width → under m 0 k ≡ 0) → Zero
+  all_zero : ((k : ℕ) → Fits w8 (byte m k)) → ((k : ℕ) → under m 0 k ≡ 0) → Zero
   all_zero b p =
       record {
-        at9 = whole 9 (p 9 (lit< tt));
-        at10 = middle (p 10 (lit< tt));
-        at11 = whole 11 (p 11 (lit< tt));
-        at14 = whole 14 (p 14 (lit< tt));
-        at15 = whole 15 (p 15 (lit< tt));
+        at9 = whole 9 (p 9);
+        at10 = middle (p 10);
+        at11 = whole 11 (p 11);
+        at14 = whole 14 (p 14);
+        at15 = whole 15 (p 15);
       }
     where
       whole : (k : ℕ) → bit_and (byte m k) 0xff ≡ 0 → byte m k ≡ 0
@@ -111,53 +110,49 @@ module _ (m : List ℕ) where
       middle : bit_and (byte m 10) 0x0c ≡ 0 → byte m 10 / 4 % 4 ≡ 0
       middle e = let h : byte m 10 / 4 % 4 * 4 ≡ 0 = sym (and_high (byte m 10) 2 2) ∙ e in omega arith
 
-  field_zero : ((k : ℕ) → k < width → under m 1 k ≡ 0) → byte m 16 % 128 ≡ 0
-  field_zero p = sym (and_mask (byte m 16) 7) ∙ p 16 (lit< tt)
+  field_zero : ((k : ℕ) → under m 1 k ≡ 0) → byte m 16 % 128 ≡ 0
+  field_zero p = sym (and_mask (byte m 16) 7) ∙ p 16
 
--- ---- the walk
+-- ---- the chain
 
--- the row's masks pick nothing of the first i bytes
-unfoldable pub Clear : List ℕ → ℕ → ℕ → Type 0
-Clear m row i = (k : ℕ) → k < i → under m row k ≡ 0
+-- it finds nothing exactly where no byte has a bit of its mask; a byte past the end is 0, and so is a mask
+none_masked : (m ms : List ℕ) → any_masked m ms ≡ false → (k : ℕ) → bit_and (get_or m k 0) (get_or ms k 0) ≡ 0
+none_masked [] ms e k = and_zero_l (get_or ms k 0)
+none_masked (b ∷ m) [] e k = and_zero_r (get_or (b ∷ m) k 0)
+none_masked (b ∷ m) (x ∷ ms) e zero = eqb-true _ _ (not-false _ (neither _ _ e).0)
+none_masked (b ∷ m) (x ∷ ms) e (suc k) = none_masked m ms (neither _ _ e).1 k
 
-pub start : (m : List ℕ) (row : ℕ) → Clear m row 0
-unfolding Clear
-start m row = below_none (λ k. under m row k ≡ 0)
+all_masked : (m ms : List ℕ) → ((k : ℕ) → bit_and (get_or m k 0) (get_or ms k 0) ≡ 0) → any_masked m ms ≡ false
+all_masked [] ms h = refl
+all_masked (b ∷ m) [] h = refl
+all_masked (b ∷ m) (x ∷ ms) h = rw (h 0) (all_masked m ms (λ k. h (suc k)))
 
-pub next : (m : List ℕ) (row i : ℕ) {b : ℕ} → b ≡ byte m i → bit_and b (get_or (get_or masks row []) i 0) ≡ 0 → Clear m row i → Clear m row (i + 1)
-unfolding Clear
-next m row i e z l = below_more (λ k. under m row k ≡ 0) i l (rw e at z)
+-- two tests that come to false together are one
+same_false : (a b : Bool) → (a ≡ false → b ≡ false) → (b ≡ false → a ≡ false) → a ≡ b
+same_false true true f g = refl
+same_false true false f g = g refl
+same_false false true f g = sym (f refl)
+same_false false false f g = refl
 
-otherwise : (b : Bool) → (b ≡ false → ⊥) → true ≡ b
-otherwise true h = refl
-otherwise false h = absurd (h refl)
-
-module _ (m : List ℕ) {row x : ℕ} (e : x ≡ byte m 1) (r : row ≡ row_of x) where
-  of_row : row ≡ row_of (byte m 1)
-  of_row = rw e at r
-
+module _ (m : List ℕ) {row : ℕ} (r : row ≡ row_of (byte m 1)) where
   -- the row is a command's, that of CONFIRM STATUS, or one after them
   each_row : (P : Bool → Type 0) → (row ≡ 0 → P (command_reserved m)) → (row ≡ 1 → P (confirm_reserved m)) → (2 ≤ row → P false) → P (reserved_set m)
-  unfolding reserved_set row_in
+  unfolding reserved_set
   each_row P first second others =
-      cond_ind P (eqb (byte m 1) scsi_command) (λ h. first (rw (eqb-true (byte m 1) scsi_command h) at of_row))
-      (λ n. cond_ind P (eqb (byte m 1) confirm_status) (λ h. second (rw (eqb-true (byte m 1) confirm_status h) at of_row))
+      cond_ind P (eqb (byte m 1) scsi_command) (λ h. first (rw (eqb-true (byte m 1) scsi_command h) at r))
+      (λ n. cond_ind P (eqb (byte m 1) confirm_status) (λ h. second (rw (eqb-true (byte m 1) confirm_status h) at r))
       (λ l.
-      let k = rw (is_not scsi_command n, is_not confirm_status l) at of_row in
+      let k = rw (is_not scsi_command n, is_not confirm_status l) at r in
       others (omega arith)))
     where
       is_not : (code : ℕ) → eqb (byte m 1) code ≡ false → eqb code (byte m 1) ≡ false
       is_not code n = ne_eqb code (byte m 1) (λ q. eqb-false _ _ n (sym q))
 
-  pub no_row : row ≡ rows → false ≡ reserved_set m
-  no_row z = each_row (λ b. false ≡ b) (λ h. absurd (omega arith)) (λ h. absurd (omega arith)) (λ _. refl)
-
-  pub all_clear : ((k : ℕ) → Fits w8 (byte m k)) → {i : ℕ} → i ≤ width → width ≤ i → Clear m row i → false ≡ reserved_set m
-  unfolding Clear
-  all_clear b {i} g h l =
-      each_row (λ b. false ≡ b)
-      (λ k. sym (none_set m (all_zero m b (λ j q. rw k at (l j (omega arith))))))
-      (λ k. sym (not_set m (field_zero m (λ j q. rw k at (l j (omega arith))))))
+  all_clear : ((k : ℕ) → Fits w8 (byte m k)) → ((i : ℕ) → under m row i ≡ 0) → reserved_set m ≡ false
+  all_clear b l =
+      each_row (λ b. b ≡ false)
+      (λ k. none_set m (all_zero m b (λ j. rw k at (l j))))
+      (λ k. not_set m (field_zero m (λ j. rw k at (l j))))
       (λ _. refl)
 
   quiet : reserved_set m ≡ false → (i : ℕ) → under m row i ≡ 0
@@ -167,7 +162,9 @@ module _ (m : List ℕ) {row x : ℕ} (e : x ≡ byte m 1) (r : row ≡ row_of x
       (λ h z i. rw h (not_picked m (zero_field m z) i))
       (λ h _ i. rw (no_mask row i h) (and_zero_r (byte m i)))
 
-  pub picked : (i : ℕ) {b : ℕ} → b ≡ byte m i → (bit_and b (get_or (get_or masks row []) i 0) ≡ 0 → ⊥) → true ≡ reserved_set m
-  picked i q n = otherwise (reserved_set m) (λ z. n (rw q (quiet z i)))
+  -- the row's masks find what the tables say
+  pub masked_is : ((k : ℕ) → Fits w8 (byte m k)) → any_masked m (get_or masks row []) ≡ reserved_set m
+  masked_is b = same_false _ _ (λ z. all_clear b (none_masked m (get_or masks row []) z)) (λ z. all_masked m (get_or masks row []) (quiet z))
 
-pub ruleset masks_cases = (start, no_row, picked, all_clear)
+  pub no_row : row ≡ rows → false ≡ reserved_set m
+  no_row z = each_row (λ b. false ≡ b) (λ h. absurd (omega arith)) (λ h. absurd (omega arith)) (λ _. refl)

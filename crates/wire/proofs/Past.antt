@@ -4,6 +4,7 @@ use Prim.Native.Nat.{ℕ, ◌+◌, ◌-◌, ◌/◌, ◌≤◌, ◌<◌}
 use mathlib.Core.Path.{◌≡◌, refl, sym, ap, ◌∙◌, subst}
 use mathlib.Core.Bool.{true, false}
 use mathlib.Core.List.{List, ◌++◌}
+use Rattle.std.specs.Prelude.{Result, Ok, Err}
 use lib.ListN.{length, get_or, take, drop, length-append, length-drop, get_or-append}
 use lib.Seq.{take-append-le, drop-append-le}
 use lib.Dec.{leb, eqb, lit<}
@@ -11,12 +12,11 @@ use native.Mathlib.Omega.{arith}
 use borrow.Author.Tests.{leb-true, le-ltb, ltb-false, eqb-true, eqb-false}
 use Rattle.wire.specs.Codes.{too_short, scsi_command, confirm_status}
 use Rattle.wire.specs.Fields.{byte, word, long}
-use Rattle.wire.specs.Messages.{lengths, rows, row_in, row_of, length_of, confirm_of, fields_of, read_of, command_reserved, confirm_reserved, reserved_set}
+use Rattle.wire.specs.Messages.{lengths, rows, row_of, length_of, confirm_of, fields_of, read_of, command_reserved, confirm_reserved, reserved_set}
 use Rattle.wire.specs.Block.{block_lengths, block_length, opcode, cut_short, no_block, linked, block_of}
 use Rattle.wire.specs.Promises.{Whole, PastIsNotRead}
 use Rattle.wire.specs.declared.codes.Refusal.{Refusal}
 use Rattle.wire.specs.declared.message.Message.{Message}
-use Rattle.wire.specs.declared.message.Message.TheVariants.{Refused}
 use Rattle.wire.proofs.Table.{at, cond_ind, cond_same, neither}
 use Rattle.wire.proofs.Rows.{command, confirm, abort_task, abort_set, clear_set, target_reset, clear_aca, unit_reset}
 use Rattle.wire.proofs.Rows.{not_ours, no_row, whole, each_reading}
@@ -71,12 +71,12 @@ module _ (m rest : List ℕ) where
         let seven : row ≡ 7 = omega (arith, r, is_not 4 f, is_not 5 g, is_not 6 h) in
         unit_reset m {row = row} tag path (is_not 0 a) (is_not 1 b) (is_not 2 c) (is_not 3 d) (is_not 4 f) (is_not 5 g) (is_not 6 h) (has 8 7 seven (lit< tt)))))))))
 
-  fields : (read_of m ≡ Refused too_short → ⊥) → read_of (m ++ rest) ≡ read_of m
+  fields : (read_of m ≡ Err too_short → ⊥) → read_of (m ++ rest) ≡ read_of m
   fields =
-      each_reading (λ r. (r ≡ Refused too_short → ⊥) → read_of (m ++ rest) ≡ r) m (λ n. absurd (n refl))
+      each_reading (λ (r : Result Message Refusal). (r ≡ Err too_short → ⊥) → read_of (m ++ rest) ≡ r) m (λ n. absurd (n refl))
       (λ h n _. sym (not_ours (m ++ rest) (longer 2 h) (λ e. n (sym (same 0 (omega arith)) ∙ e))))
-      (λ h e z _. sym (no_row (m ++ rest) (longer 2 h) (same 0 (omega arith) ∙ e) (row_same h) z))
-      (λ h e z l _. sym (whole (m ++ rest) (longer 2 h) (same 0 (omega arith) ∙ e) (row_same h) (λ q. omega arith) (longer _ l) (sym (fields_same _ z l))))
+      (λ h e z _. sym (no_row (m ++ rest) (longer 2 h) (same 0 (omega arith) ∙ e) (sym (row_same h) ∙ z)))
+      (λ h e z l _. sym (whole (m ++ rest) (longer 2 h) (same 0 (omega arith) ∙ e) (row_same h) z (longer _ l) (sym (fields_same _ z l))))
     where
       row_same : 2 ≤ length m → row_of (byte m 1) ≡ row_of (byte (m ++ rest) 1)
       row_same h = ap row_of (sym (same 1 h))
@@ -118,12 +118,12 @@ module _ (m rest : List ℕ) where
   abbrev Long : Type 0
   Long = (2 ≤ length m) × (length_of (row_of (byte m 1)) ≤ length m)
 
-  long_enough : ((n : Refusal) → read_of m ≡ Refused n → ⊥) → Long
+  long_enough : ((n : Refusal) → read_of m ≡ Err n → ⊥) → Long
   long_enough =
-      each_reading (λ r. ((n : Refusal) → r ≡ Refused n → ⊥) → Long) m (λ n. absurd (n _ refl)) (λ _ _ n. absurd (n _ refl)) (λ _ _ _ n. absurd (n _ refl)) (λ h _ _ l _. (h, l))
+      each_reading (λ r. ((n : Refusal) → r ≡ Err n → ⊥) → Long) m (λ n. absurd (n _ refl)) (λ _ _ n. absurd (n _ refl)) (λ _ _ _ n. absurd (n _ refl)) (λ h _ _ l _. (h, l))
 
   reserved : Whole m → reserved_set (m ++ rest) ≡ reserved_set m
-  unfolding reserved_set command_reserved confirm_reserved row_in
+  unfolding reserved_set command_reserved confirm_reserved
   reserved w =
       let l = long_enough w.fields in
       rw (same 1 l.0)

@@ -1,61 +1,49 @@
 -- The row of a code in the table of messages, the message of a row, and what is read, case by case.
 -- Assumes nothing.
-use Prim.Native.Nat.{ℕ, suc, ◌+◌, ◌/◌, ◌≤◌, ◌<◌, zero-le}
-use mathlib.Core.Path.{◌≡◌, refl, sym, ◌∙◌}
-use mathlib.Core.Bool.{not}
-use mathlib.Core.List.{List, [], ◌∷◌}
-use lib.ListN.{length, get_or, drop, drop_of_length-le}
-use lib.Seq.{drop-cons}
-use lib.Dec.{ltb, eqb}
-use native.Mathlib.Nat.{add-zero}
-use native.Mathlib.Numerals.{add-one}
+use Rattle.std.specs.Prelude.{ℕ, ◌+◌, ◌/◌, ◌≤◌, ◌<◌, ◌≡◌, false, not, List, Option, Some, None, Result, Ok, Err, length, get_or, ltb, eqb, nat_lt}
+use Rattle.std.specs.List.{position_or_len}
+use Rattle.std.proofs.lemmas.List.Sums.{prefix_len-le-length, passes_at_first}
+use Rattle.std.proofs.lemmas.Option.{none-some, same_Some}
+use mathlib.Core.Path.{sym, ◌∙◌, subst}
 use native.Mathlib.Omega.{arith}
-use borrow.Author.Tests.{lt-ltb, le-ltb, ltb-false, eq-eqb, ne_eqb, eqb-true, eqb-false, not-true, not-false}
+use borrow.Author.Tests.{lt-ltb, le-ltb, ltb-true, ltb-false, eq-eqb, ne_eqb, eqb-true, eqb-false, not-true, not-false}
 use Rattle.wire.specs.Codes.{too_short, not_handled, sms_code}
 use Rattle.wire.specs.Fields.{byte, joined, word, long}
-use Rattle.wire.specs.Messages.{codes, rows, row_in, row_of, length_of, flags_of, confirm_of, fields_of, read_of}
+use Rattle.wire.specs.Messages.{codes, rows, row_of, row_found, length_of, flags_of, confirm_of, fields_of, read_of}
 use Rattle.wire.proofs.Table.{cond_ind}
+use Rattle.wire.specs.declared.codes.Refusal.{Refusal}
 use Rattle.wire.specs.declared.message.Flags.{Flags}
 use Rattle.wire.specs.declared.message.Message.{Message}
-use Rattle.wire.specs.declared.message.Message.TheVariants.{Command, ConfirmStatus, AbortTask, AbortTaskSet, ClearTaskSet, TargetReset, ClearAca, UnitReset, Refused}
+use Rattle.wire.specs.declared.message.Message.TheVariants.{Command, ConfirmStatus, AbortTask, AbortTaskSet, ClearTaskSet, TargetReset, ClearAca, UnitReset}
 
--- ---- the search for a row
+-- ---- the row of a code
 
--- the first k entries are not x
-abbrev pub Passed : List ℕ → ℕ → ℕ → Type 0
-Passed xs x k = row_in x xs ≡ k + row_in x (drop k xs)
+-- no code has a row past the table's end
+within : (code : ℕ) → row_of code ≤ rows
+within code = prefix_len-le-length (λ c. not (eqb c code)) codes
 
-module _ (xs : List ℕ) (x k : ℕ) (h : k < length xs) (l : Passed xs x k) where
-  pub found : get_or xs k 0 ≡ x → k ≡ row_in x xs
-  unfolding row_in
-  found e = sym (l ∙ rw (drop-cons xs k 0) (simp (eq-eqb _ _ e, add-zero)))
+-- a row that is found is the code's, and one of the table; where none is found, the code has none
+module _ (code : ℕ) {r : Option ℕ} (e : r ≡ row_found code) where
+  found : {row : ℕ} → r ≡ Some row → (row ≡ row_of code) × (row < rows)
+  found {row} s =
+      cond_ind (λ x. x ≡ Some row → (row ≡ row_of code) × (row < rows)) (nat_lt (row_of code) rows)
+      (λ l q. let k : row_of code ≡ row = same_Some _ _ q in (sym k, subst (λ n. n < rows) k (ltb-true _ _ l))) (λ _ q. absurd (none-some _ q))
+      (sym e ∙ s)
 
-  pub next : (get_or xs k 0 ≡ x → ⊥) → Passed xs x (k + 1)
-  unfolding row_in
-  next n = l ∙ rw (drop-cons xs k 0) (simp (ne_eqb _ _ n, add-one) (omega arith))
+  pub row_is : {row : ℕ} → r ≡ Some row → row ≡ row_of code
+  row_is s = (found s).0
 
-pub ended : (xs : List ℕ) (x k : ℕ) → k ≤ length xs → length xs ≤ k → Passed xs x k → length xs ≡ row_in x xs
-unfolding row_in
-ended xs x k g h l =
-    let e : length xs ≡ k = omega arith in
-    e ∙ sym (simp (drop_of_length-le xs h, add-zero) at l)
+  pub in_table : {row : ℕ} → r ≡ Some row → row < rows
+  in_table s = (found s).1
 
-place_within : (x : ℕ) (xs : List ℕ) → row_in x xs ≤ length xs
-unfolding row_in
-place_within x [] = zero-le
-place_within x (y ∷ ys) = cond_ind (λ n. n ≤ suc (length ys)) (eqb y x) (λ _. zero-le) (λ _. omega (arith, place_within x ys))
+  pub none_found : r ≡ None → row_of code ≡ rows
+  none_found s =
+      cond_ind (λ x. x ≡ None → row_of code ≡ rows) (nat_lt (row_of code) rows)
+      (λ _ q. absurd (none-some _ (sym q))) (λ g _. omega (arith, within code, ltb-false _ _ g)) (sym e ∙ s)
 
--- at the place of x stands x
-pub place_holds : (x : ℕ) (xs : List ℕ) → row_in x xs < length xs → get_or xs (row_in x xs) 0 ≡ x
-unfolding row_in
-place_holds x [] = λ h. absurd (omega arith)
-place_holds x (y ∷ ys) =
-    cond_ind (λ k. k < suc (length ys) → get_or (y ∷ ys) k 0 ≡ x) (eqb y x) (λ e h. eqb-true y x e)
-    (λ _ h. rw add-one (place_holds x ys (omega arith)))
-
--- a row that is found is one of the table
-pub in_table : (code : ℕ) {row : ℕ} → row ≡ row_of code → (row ≡ rows → ⊥) → row < rows
-in_table code e n = omega (arith, place_within code codes)
+-- at the place of a code stands the code
+pub place_holds : (code : ℕ) → row_of code < rows → get_or codes (row_of code) 0 ≡ code
+place_holds code h = eqb-true _ _ (passes_at_first (λ c. eqb c code) codes 0 h)
 
 -- ---- the message of a row
 
@@ -101,35 +89,38 @@ pub ruleset fields_cases = (command, confirm, abort_task, abort_set, clear_set, 
 
 -- ---- what is read
 
-pub no_codes : (m : List ℕ) → length m < 2 → Refused too_short ≡ read_of m
+lt_eqb : (row n : ℕ) → row < n → eqb row n ≡ false
+lt_eqb row n h = ne_eqb row n (λ e. omega arith)
+
+pub no_codes : (m : List ℕ) → length m < 2 → Err too_short ≡ read_of m
 unfolding read_of
 no_codes m h = simp (lt-ltb _ _ h)
 
 module _ (m : List ℕ) (h : 2 ≤ length m) where
-  pub not_ours : (byte m 0 ≡ sms_code → ⊥) → Refused not_handled ≡ read_of m
+  pub not_ours : (byte m 0 ≡ sms_code → ⊥) → Err not_handled ≡ read_of m
   unfolding read_of
   not_ours n = simp (le-ltb _ _ h, ne_eqb _ _ n)
 
-  module _ (e : byte m 0 ≡ sms_code) {row : ℕ} (r : row ≡ row_of (byte m 1)) where
-    pub no_row : row ≡ rows → Refused not_handled ≡ read_of m
+  module _ (e : byte m 0 ≡ sms_code) where
+    pub no_row : row_of (byte m 1) ≡ rows → Err not_handled ≡ read_of m
     unfolding read_of
-    no_row z = simp (le-ltb _ _ h, eq-eqb _ _ e, ← r, eq-eqb _ _ z)
+    no_row z = simp (le-ltb _ _ h, eq-eqb _ _ e, eq-eqb _ _ z)
 
-    module _ (z : row ≡ rows → ⊥) where
-      pub short : length m < length_of row → Refused too_short ≡ read_of m
+    module _ {row : ℕ} (r : row ≡ row_of (byte m 1)) (z : row < rows) where
+      pub short : length m < length_of row → Err too_short ≡ read_of m
       unfolding read_of
-      short l = simp (le-ltb _ _ h, eq-eqb _ _ e, ← r, ne_eqb _ _ z, lt-ltb _ _ l)
+      short l = simp (le-ltb _ _ h, eq-eqb _ _ e, ← r, lt_eqb _ _ z, lt-ltb _ _ l)
 
-      pub whole : {x : Message} → length_of row ≤ length m → x ≡ fields_of row m → x ≡ read_of m
+      pub whole : {x : Message} → length_of row ≤ length m → x ≡ fields_of row m → Ok x ≡ read_of m
       unfolding read_of
-      whole l f = f ∙ simp (le-ltb _ _ h, eq-eqb _ _ e, ← r, ne_eqb _ _ z, le-ltb _ _ l)
+      whole l f = rw f (simp (le-ltb _ _ h, eq-eqb _ _ e, ← r, lt_eqb _ _ z, le-ltb _ _ l))
 
 -- one of the four ways out, with what the tests on it found
-module _ (P : Message → Type 0) (m : List ℕ) where
-  pub each_reading : P (Refused too_short)
-      → (2 ≤ length m → (byte m 0 ≡ sms_code → ⊥) → P (Refused not_handled))
-      → (2 ≤ length m → byte m 0 ≡ sms_code → row_of (byte m 1) ≡ rows → P (Refused not_handled))
-      → (2 ≤ length m → byte m 0 ≡ sms_code → row_of (byte m 1) < rows → length_of (row_of (byte m 1)) ≤ length m → P (fields_of (row_of (byte m 1)) m))
+module _ (P : Result Message Refusal → Type 0) (m : List ℕ) where
+  pub each_reading : P (Err too_short)
+      → (2 ≤ length m → (byte m 0 ≡ sms_code → ⊥) → P (Err not_handled))
+      → (2 ≤ length m → byte m 0 ≡ sms_code → row_of (byte m 1) ≡ rows → P (Err not_handled))
+      → (2 ≤ length m → byte m 0 ≡ sms_code → row_of (byte m 1) < rows → length_of (row_of (byte m 1)) ≤ length m → P (Ok (fields_of (row_of (byte m 1)) m)))
       → P (read_of m)
   unfolding read_of
   each_reading refused ours row message =
@@ -137,6 +128,6 @@ module _ (P : Message → Type 0) (m : List ℕ) where
       (λ h. cond_ind P (not (eqb (byte m 0) sms_code)) (λ n. ours (ltb-false _ _ h) (eqb-false _ _ (not-true _ n)))
       (λ e. cond_ind P (eqb (row_of (byte m 1)) rows) (λ z. row (ltb-false _ _ h) (eqb-true _ _ (not-false _ e)) (eqb-true _ _ z))
       (λ z. cond_ind P (ltb (length m) (length_of (row_of (byte m 1)))) (λ _. refused)
-      (λ l. message (ltb-false _ _ h) (eqb-true _ _ (not-false _ e)) (in_table (byte m 1) refl (eqb-false _ _ z)) (ltb-false _ _ l)))))
+      (λ l. message (ltb-false _ _ h) (eqb-true _ _ (not-false _ e)) (omega (arith, within (byte m 1), eqb-false _ _ z)) (ltb-false _ _ l)))))
 
-pub ruleset read_cases = (in_table, no_codes, not_ours, no_row, short, whole)
+pub ruleset read_cases = (row_is, in_table, none_found, no_codes, not_ours, no_row, short, whole)

@@ -1,77 +1,93 @@
 -- The numbers of page 01 and 003 under their names: page 01's refusals, the codes of 003's tables 4, 6, 9, 10 and 21,
 -- and those of SCSI-3 that page 01 names. They stand here for every crate above; places, lengths and masks stand with
 -- the layouts (Messages.antt, Block.antt).
-use Rattle.std.specs.Prelude.{ℕ}
+use Rattle.std.specs.Prelude.{ℕ, cond, eqb}
 use Rattle.wire.specs.declared.codes.Refusal.{Refusal}
+use Rattle.wire.specs.declared.codes.Refusal.TheVariants as refusal
 use Rattle.wire.specs.declared.codes.ReturnCode.{ReturnCode}
 use Rattle.wire.specs.declared.codes.StatusByte.{StatusByte}
 use Rattle.wire.specs.declared.codes.Sense.{Sense}
-use Rattle.wire.specs.declared.codes.Queue.{Queue}
+use Rattle.wire.specs.declared.codes.Kind.{Kind}
+use Rattle.wire.specs.declared.codes.Kind.TheVariants as kind
 
 -- ---- page 01, numbered refusals
 
-abbrev pub refusal : ℕ → Refusal
-refusal n = record { 0 = n }
+abbrev pub refusal_number : Refusal → ℕ
+refusal_number refusal.TooShort = 1
+refusal_number refusal.NotHandled = 2
+refusal_number refusal.UnknownPath = 3
+refusal_number refusal.Discarded = 4
+refusal_number refusal.SmallBuffer = 5
+refusal_number refusal.NotAttached = 6
+refusal_number refusal.UnitBusy = 7
+refusal_number refusal.NothingToStart = 8
+refusal_number refusal.NotRunning = 9
+refusal_number refusal.BadStatus = 10
+refusal_number refusal.BadPaths = 11
+refusal_number refusal.Malformed = 12
+refusal_number refusal.NotSound = 13
+refusal_number refusal.NotWritable = 14
+refusal_number refusal.NothingToConfirm = 15
 
 -- message shorter than its specified length
 abbrev pub too_short : Refusal
-too_short = refusal 1
+too_short = refusal.TooShort
 
 -- SMS CODE not 83h, or S3P CODE not one handled
 abbrev pub not_handled : Refusal
-not_handled = refusal 2
+not_handled = refusal.NotHandled
 
 -- RETURN PATH ID not in the path list
 abbrev pub unknown_path : Refusal
-unknown_path = refusal 3
+unknown_path = refusal.UnknownPath
 
 -- command discarded in buffer-full condition
 abbrev pub discarded : Refusal
-discarded = refusal 4
+discarded = refusal.Discarded
 
 -- reply buffer under 64 bytes
 abbrev pub small_buffer : Refusal
-small_buffer = refusal 5
+small_buffer = refusal.SmallBuffer
 
 -- start: unit above 7 or not attached
 abbrev pub not_attached : Refusal
-not_attached = refusal 6
+not_attached = refusal.NotAttached
 
 -- start: a task runs on the unit
 abbrev pub unit_busy : Refusal
-unit_busy = refusal 7
+unit_busy = refusal.UnitBusy
 
 -- start: no waiting task may run
 abbrev pub nothing_to_start : Refusal
-nothing_to_start = refusal 8
+nothing_to_start = refusal.NothingToStart
 
 -- finish: no running task has this arrival number
 abbrev pub not_running : Refusal
-not_running = refusal 9
+not_running = refusal.NotRunning
 
 -- finish: status not 00h, 02h, 04h, 18h, or sense key above 15
 abbrev pub bad_status : Refusal
-bad_status = refusal 10
+bad_status = refusal.BadStatus
 
 -- setup: 0 paths, over 8, or an id twice
 abbrev pub bad_paths : Refusal
-bad_paths = refusal 11
+bad_paths = refusal.BadPaths
 
 -- transcript malformed
 abbrev pub malformed : Refusal
-malformed = refusal 12
+malformed = refusal.Malformed
 
 -- the table handed in isn't sound
 abbrev pub not_sound : Refusal
-not_sound = refusal 13
+not_sound = refusal.NotSound
 
 -- reply reader or writer: not a reply that the engine can write
 abbrev pub not_writable : Refusal
-not_writable = refusal 14
+not_writable = refusal.NotWritable
 
 -- page 02, M-100. CONFIRM STATUS: no task of that path and tag waits to be confirmed
 abbrev pub nothing_to_confirm : Refusal
-nothing_to_confirm = refusal 15
+nothing_to_confirm = refusal.NothingToConfirm
 
 -- the reply buffer that every call with a reply asks for
 abbrev pub reply_room : ℕ
@@ -197,19 +213,13 @@ current_error = 0x70
 abbrev pub additional_sense_length : ℕ
 additional_sense_length = 0x0a
 
--- ---- 003, table 6: QUEUE CNTL
+-- ---- 003, table 6: QUEUE CNTL, and the kind that its number says
 
-abbrev pub queue : ℕ → Queue
-queue n = record { 0 = n }
+abbrev pub kind_number : Kind → ℕ
+kind_number kind.Aca = 0
+kind_number kind.Head = 1
+kind_number kind.Ordered = 2
+kind_number kind.Simple = 3
 
-abbrev pub queue_aca : Queue
-queue_aca = queue 0
-
-abbrev pub queue_head : Queue
-queue_head = queue 1
-
-abbrev pub queue_ordered : Queue
-queue_ordered = queue 2
-
-abbrev pub queue_simple : Queue
-queue_simple = queue 3
+abbrev pub kind_of : ℕ → Kind
+kind_of n = cond (eqb n 0) kind.Aca (cond (eqb n 1) kind.Head (cond (eqb n 2) kind.Ordered kind.Simple))

@@ -1,12 +1,14 @@
 -- The messages that are received (003, tables 4, 5, 11 and 14 to 19): the table of them, the fields of each, and
 -- which bytes are none.
-use Rattle.std.specs.Prelude.{ℕ, ◌+◌, ◌/◌, ◌%◌, List, [], ◌∷◌, Bool, false, cond, not, ◌||◌, length, get_or, ltb, eqb}
-use Rattle.wire.specs.Codes.{too_short, not_handled, queue, sms_code}
+use Rattle.std.specs.Prelude.{ℕ, ◌+◌, ◌/◌, ◌%◌, List, [], ◌∷◌, Bool, false, cond, not, ◌||◌, Option, Result, Ok, Err, position, bit_and, length, get_or, ltb, eqb}
+use Rattle.std.specs.List.{position_or_len, list_any, zip}
+use Rattle.wire.specs.Codes.{too_short, not_handled, kind_of, sms_code}
 use Rattle.wire.specs.Codes.{scsi_command, confirm_status, abort_task, abort_task_set, clear_task_set, target_reset, clear_aca, logical_unit_reset}
 use Rattle.wire.specs.Fields.{byte, word, long}
+use Rattle.wire.specs.declared.codes.Refusal.{Refusal}
 use Rattle.wire.specs.declared.message.Flags.{Flags}
 use Rattle.wire.specs.declared.message.Message.{Message}
-use Rattle.wire.specs.declared.message.Message.TheVariants.{Command, ConfirmStatus, AbortTask, AbortTaskSet, ClearTaskSet, TargetReset, ClearAca, UnitReset, Refused}
+use Rattle.wire.specs.declared.message.Message.TheVariants.{Command, ConfirmStatus, AbortTask, AbortTaskSet, ClearTaskSet, TargetReset, ClearAca, UnitReset}
 
 -- ---- the table of messages: a row for each kind, in the order of table 4
 
@@ -18,17 +20,17 @@ codes = scsi_command ∷ confirm_status ∷ abort_task ∷ abort_task_set ∷ cl
 abbrev pub lengths : List ℕ
 lengths = 11 ∷ 17 ∷ 10 ∷ 9 ∷ 9 ∷ 8 ∷ 9 ∷ 9 ∷ []
 
--- how many rows there are; the row of a code that has none
+-- how many rows there are
 abbrev pub rows : ℕ
 rows = 8
 
--- the place of the first x in the list; its length where there is none
-unfoldable pub row_in : ℕ → List ℕ → ℕ
-row_in x [] = 0
-row_in x (y ∷ ys) = cond (eqb y x) 0 (row_in x ys + 1)
-
+-- the row of a code: the first that has it, and 8 where none has
 abbrev pub row_of : ℕ → ℕ
-row_of code = row_in code codes
+row_of code = position_or_len (λ c. eqb c code) codes
+
+-- the same where there is one
+abbrev pub row_found : ℕ → Option ℕ
+row_found code = position (λ c. eqb c code) codes
 
 abbrev pub length_of : ℕ → ℕ
 length_of row = get_or lengths row 0
@@ -42,7 +44,7 @@ flags_of b = record {
   oot = eqb (b / 64 % 2) 1;
   resume = eqb (b / 32 % 2) 1;
   confirm = eqb (b / 16 % 2) 1;
-  queue = queue (b % 4);
+  queue = kind_of (b % 4);
 }
 
 -- table 11: NEW RETURN PATH ID at 8, BYTE OFFSET at 12, COMPLETE is bit 7 of byte 16; the path is OLD RETURN PATH ID
@@ -62,13 +64,13 @@ fields_of row m =
     (UnitReset (word m 2) (long m 4) (byte m 8))))))))
 
 -- 1 if under 2 bytes, 2, then 1 if under the length needed; bytes past it are not read
-unfoldable pub read_of : List ℕ → Message
+unfoldable pub read_of : List ℕ → Result Message Refusal
 read_of m =
-    cond (ltb (length m) 2) (Refused too_short)
-    (cond (not (eqb (byte m 0) sms_code)) (Refused not_handled)
-    (cond (eqb (row_of (byte m 1)) rows) (Refused not_handled)
-    (cond (ltb (length m) (length_of (row_of (byte m 1)))) (Refused too_short)
-    (fields_of (row_of (byte m 1)) m))))
+    cond (ltb (length m) 2) (Err too_short)
+    (cond (not (eqb (byte m 0) sms_code)) (Err not_handled)
+    (cond (eqb (row_of (byte m 1)) rows) (Err not_handled)
+    (cond (ltb (length m) (length_of (row_of (byte m 1)))) (Err too_short)
+    (Ok (fields_of (row_of (byte m 1)) m)))))
 
 -- ---- the reserved fields
 
@@ -84,3 +86,7 @@ confirm_reserved m = not (eqb (byte m 16 % 128) 0)
 -- a reserved field is not zero: tables 14 to 19 have none
 unfoldable pub reserved_set : List ℕ → Bool
 reserved_set m = cond (eqb (byte m 1) scsi_command) (command_reserved m) (cond (eqb (byte m 1) confirm_status) (confirm_reserved m) false)
+
+-- one of the bytes has a bit of the mask beside it
+abbrev pub any_masked : List ℕ → List ℕ → Bool
+any_masked m masks = list_any (λ p. not (eqb (bit_and p.0 p.1) 0)) (zip m masks)

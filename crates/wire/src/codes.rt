@@ -1,5 +1,7 @@
 // The numbers of page 01 and 003, those of a type as its associated constants. specs/Codes.antt has them under the
 // same names and says when each is meant.
+ghost use Rattle.std.specs.Prelude.{◌≡◌};
+ghost use Rattle.wire.specs.Codes.{refusal_number, kind_of};
 
 // The reply buffer that every call with a reply asks for.
 pub const REPLY_ROOM: usize = 64;
@@ -32,40 +34,49 @@ pub const INQUIRY: u8 = 0x12;
 
 pub const REQUEST_SENSE: u8 = 0x03;
 
-// A numbered refusal (page 01, "Numbered refusals").
-#[derive(Clone, Copy)]
-pub struct Refusal(pub u8);
+// Why a call is refused (page 01, "Numbered refusals").
+#[derive(Clone, Copy, PartialEq, Eq)]
+pub enum Refusal {
+    TooShort,
+    NotHandled,
+    UnknownPath,
+    Discarded,
+    SmallBuffer,
+    NotAttached,
+    UnitBusy,
+    NothingToStart,
+    NotRunning,
+    BadStatus,
+    BadPaths,
+    Malformed,
+    NotSound,
+    NotWritable,
+    NothingToConfirm,
+}
 
 impl Refusal {
-    pub const TOO_SHORT: Refusal = Refusal(1);
-
-    pub const NOT_HANDLED: Refusal = Refusal(2);
-
-    pub const UNKNOWN_PATH: Refusal = Refusal(3);
-
-    pub const DISCARDED: Refusal = Refusal(4);
-
-    pub const SMALL_BUFFER: Refusal = Refusal(5);
-
-    pub const NOT_ATTACHED: Refusal = Refusal(6);
-
-    pub const UNIT_BUSY: Refusal = Refusal(7);
-
-    pub const NOTHING_TO_START: Refusal = Refusal(8);
-
-    pub const NOT_RUNNING: Refusal = Refusal(9);
-
-    pub const BAD_STATUS: Refusal = Refusal(10);
-
-    pub const BAD_PATHS: Refusal = Refusal(11);
-
-    pub const MALFORMED: Refusal = Refusal(12);
-
-    pub const NOT_SOUND: Refusal = Refusal(13);
-
-    pub const NOT_WRITABLE: Refusal = Refusal(14);
-
-    pub const NOTHING_TO_CONFIRM: Refusal = Refusal(15);
+    // Its number on page 01.
+    pub fn number(self) -> u8
+        ensures { result ≡ refusal_number self }
+    {
+        match self {
+            Refusal::TooShort => 1,
+            Refusal::NotHandled => 2,
+            Refusal::UnknownPath => 3,
+            Refusal::Discarded => 4,
+            Refusal::SmallBuffer => 5,
+            Refusal::NotAttached => 6,
+            Refusal::UnitBusy => 7,
+            Refusal::NothingToStart => 8,
+            Refusal::NotRunning => 9,
+            Refusal::BadStatus => 10,
+            Refusal::BadPaths => 11,
+            Refusal::Malformed => 12,
+            Refusal::NotSound => 13,
+            Refusal::NotWritable => 14,
+            Refusal::NothingToConfirm => 15,
+        }
+    }
 }
 
 // The RETURN CODE of a SCSI RESPONSE (003, table 21); of a SCSI STATUS (table 9) the first and the last alone.
@@ -165,16 +176,25 @@ pub const CURRENT_ERROR: u8 = 0x70;
 
 pub const ADDITIONAL_SENSE_LENGTH: u8 = 0x0a;
 
-// QUEUE CNTL (003, table 6).
-#[derive(Clone, Copy)]
-pub struct Queue(pub u8);
+// QUEUE CNTL (003, table 6): how a command is queued. The first is the zero of a wiped record.
+#[derive(Clone, Copy, PartialEq, Eq)]
+pub enum Kind {
+    Aca,
+    Head,
+    Ordered,
+    Simple,
+}
 
-impl Queue {
-    pub const ACA: Queue = Queue(0);
+// The kind that the field's number says: it has two bits, so the last is number 3.
+impl From<u8> for Kind {
+    ghost from_gives = { λ b k. k ≡ kind_of b };
 
-    pub const HEAD: Queue = Queue(1);
-
-    pub const ORDERED: Queue = Queue(2);
-
-    pub const SIMPLE: Queue = Queue(3);
+    fn from(b: u8) -> Kind {
+        match b {
+            0 => Kind::Aca,
+            1 => Kind::Head,
+            2 => Kind::Ordered,
+            _ => Kind::Simple,
+        }
+    }
 }

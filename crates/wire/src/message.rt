@@ -1,9 +1,9 @@
 // The messages that are received, and the reader of them, which goes by the tables.
 ghost use Rattle.std.specs.Prelude.{◌≡◌, ◌≤◌};
 ghost use Rattle.wire.specs.Fields;
-ghost use Rattle.wire.specs.Messages.{flags_of, row_of, confirm_of, fields_of, read_of, reserved_set};
+ghost use Rattle.wire.specs.Messages.{flags_of, row_found, confirm_of, fields_of, read_of, any_masked, reserved_set};
 
-use crate::codes::{Queue, Refusal, SMS_CODE};
+use crate::codes::{Kind, Refusal, SMS_CODE};
 use crate::fields::{byte_at, long, word};
 use crate::tables::{CODES, LENGTHS, MASKS, ROWS, WIDTH};
 
@@ -14,10 +14,10 @@ pub struct Flags {
     pub oot: bool,
     pub resume: bool,
     pub confirm: bool,
-    pub queue: Queue,
+    pub queue: Kind,
 }
 
-// A received message with its fields, or the refusal.
+// A received message with its fields.
 #[derive(Clone, Copy)]
 pub enum Message {
     Command {
@@ -62,21 +62,13 @@ pub enum Message {
         path: u32,
         lun: u8,
     },
-    Refused(Refusal),
 }
 
-// The row of an S3P CODE, or ROWS where it is not one handled.
-fn row_of(code: u8) -> usize
-    ensures { result ≡ row_of code }
+// The row of an S3P CODE, if it is one handled.
+fn row_of(code: u8) -> Option<usize>
+    ensures { result ≡ row_found code }
 {
-    let mut row = 0;
-    while row < ROWS {
-        if CODES[row] == code {
-            return row;
-        }
-        row += 1;
-    }
-    ROWS
+    CODES.iter().position(|&c| c == code)
 }
 
 fn flags_of(b: u8) -> Flags
@@ -87,7 +79,7 @@ fn flags_of(b: u8) -> Flags
         oot: b / 64 % 2 == 1,
         resume: b / 32 % 2 == 1,
         confirm: b / 16 % 2 == 1,
-        queue: Queue(b % 4),
+        queue: Kind::from(b % 4),
     }
 }
 
@@ -150,40 +142,38 @@ fn fields_of(m: &[u8], row: usize) -> Message
     }
 }
 
-// The message that the bytes hold, with its fields, or the number of the refusal.
-pub fn read(m: &[u8]) -> Message
+// The message that the bytes hold, with its fields, or why it is refused.
+pub fn read(m: &[u8]) -> Result<Message, Refusal>
     ensures { result ≡ read_of m.now }
 {
     if m.len() < 2 {
-        return Message::Refused(Refusal::TOO_SHORT);
+        return Err(Refusal::TooShort);
     }
     if m[0] != SMS_CODE {
-        return Message::Refused(Refusal::NOT_HANDLED);
+        return Err(Refusal::NotHandled);
     }
-    let row = row_of(m[1]);
-    if row == ROWS {
-        return Message::Refused(Refusal::NOT_HANDLED);
-    }
+    let Some(row) = row_of(m[1]) else {
+        return Err(Refusal::NotHandled);
+    };
     if m.len() < LENGTHS[row] {
-        return Message::Refused(Refusal::TOO_SHORT);
+        return Err(Refusal::TooShort);
     }
-    fields_of(m, row)
+    Ok(fields_of(m, row))
 }
 
-// Whether a reserved field of the message is not zero, by the masks of its row.
+// Whether one of the bytes has a bit of the mask beside it.
+fn any_masked(m: &[u8], masks: &[u8]) -> bool
+    ensures { result ≡ any_masked m.now masks.now }
+{
+    m.iter().zip(masks).any(|(b, mask)| b & mask != 0)
+}
+
+// Whether a reserved field of the message is not zero, by the masks of its row. A byte past the end is 0.
 pub fn reserved_set(m: &[u8]) -> bool
     ensures { result ≡ reserved_set m.now }
 {
-    let row = row_of(byte_at(m, 1));
-    if row == ROWS {
+    let Some(row) = row_of(byte_at(m, 1)) else {
         return false;
-    }
-    let mut i = 0;
-    while i < WIDTH {
-        if byte_at(m, i) & MASKS[row][i] != 0 {
-            return true;
-        }
-        i += 1;
-    }
-    false
+    };
+    any_masked(m, &MASKS[row])
 }

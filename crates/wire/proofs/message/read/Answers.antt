@@ -10,17 +10,11 @@ returns-then-m-lt2 c = search read_cases
 pub returns-then-m : goal.returns-then-m
 returns-then-m c = search read_cases
 
-pub returns-then-row-eq-ROWS : goal.returns-then-row-eq-ROWS
-returns-then-row-eq-ROWS c = search read_cases
-
-pub offset_bounds-row : goal.offset_bounds-row
-offset_bounds-row c = scaled_Fits _ rows 8 (search read_cases) (search rules)
+pub returns-in_default : goal.returns-in_default
+returns-in_default c = search read_cases
 
 pub returns-then-m-row : goal.returns-then-m-row
 returns-then-m-row c = search read_cases
 
 pub returns : goal.returns
 returns c = search read_cases
-
-pub bounds-row : goal.bounds-row
-bounds-row c = search read_cases

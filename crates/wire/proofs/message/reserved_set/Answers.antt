@@ -1,21 +1,18 @@
 -- `wire::message::reserved_set` meets its contract. Assumes nothing.
-use native.Mathlib.Omega.{arith}
-use borrow.Author.Rules.{rules}
-use Rattle.wire.proofs.Rows.{in_table}
-use Rattle.wire.proofs.Masks.{next, masks_cases}
+use Rattle.std.specs.Prelude.{◌≡◌}
+use mathlib.Core.Path.{refl, ◌∙◌}
+use Rattle.wire.specs.Fields.{byte}
+use Rattle.wire.specs.Messages.{rows, row_of}
+use Rattle.wire.proofs.Rows.{row_is, none_found}
+use Rattle.wire.proofs.Masks.{masked_is, no_row}
 use Rattle.wire.proofs.message.reserved_set.Goals as goal
 
-pub returns-then-row-eq-ROWS : goal.returns-then-row-eq-ROWS
-returns-then-row-eq-ROWS c = search masks_cases
-
-pub loop-i-init : goal.loop-i-init
-loop-i-init c = (search in_table, search rules, search masks_cases)
-
-pub returns-then-byte_at-row-ne0 : goal.returns-then-byte_at-row-ne0
-returns-then-byte_at-row-ne0 c = search masks_cases
-
-pub loop-i-preserved : goal.loop-i-preserved
-loop-i-preserved c = (omega arith, omega arith, next _ _ _ c.byte_at-in-loop-i.ensures c.if-byte_at-row-ne0.false c.loop-i.invariant.2)
+pub returns-in_default : goal.returns-in_default
+returns-in_default c =
+    let none : row_of c.byte_at.result ≡ rows = none_found c.byte_at.result c.row_of.ensures c.in_default.is in
+    no_row c.args.m.now refl (rw c.byte_at.ensures at none)
 
 pub returns : goal.returns
-returns c = search masks_cases
+returns c =
+    let row : c.in-Some.row ≡ row_of c.byte_at.result = row_is c.byte_at.result c.row_of.ensures c.in-Some.is in
+    c.any_masked.ensures ∙ masked_is c.args.m.now (rw c.byte_at.ensures at row) c.type_inv.m
