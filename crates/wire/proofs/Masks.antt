@@ -1,19 +1,19 @@
 -- The table of masks says what tables 5 and 11 say of the reserved fields, and a walk over a row's masks finds out
 -- which it is. Assumes nothing.
-use Prim.Native.Nat.{ℕ, zero, suc, ◌+◌, ◌*◌, ◌/◌, ◌%◌, ◌^◌, ◌≤◌, ◌<◌}
+use Prim.Native.Nat.{ℕ, zero, suc, ◌*◌, ◌/◌, ◌%◌, ◌^◌, ◌≤◌}
 use mathlib.Core.Path.{◌≡◌, refl, sym, ◌∙◌}
 use mathlib.Core.Bool.{Bool, true, false, ◌||◌, or-true}
 use mathlib.Core.List.{List, [], ◌∷◌}
 use lib.ListN.{get_or, replicate}
 use lib.Bits.{bit_and, and_zero_l, and_zero_r, and_high, and_mask}
-use lib.Dec.{ltb, eqb, lit<}
+use lib.Dec.{ltb, eqb}
 use native.Mathlib.Omega.{arith}
 use mir.Syntax.{w8}
 use mir.Val.{Fits}
 use borrow.Author.Tests.{le-ltb, eq-eqb, ne_eqb, eqb-true, eqb-false, not-false}
 use Rattle.wire.specs.Codes.{scsi_command, confirm_status}
 use Rattle.wire.specs.Fields.{byte}
-use Rattle.wire.specs.Messages.{rows, row_of, row_found, command_reserved, confirm_reserved, any_masked, reserved_set}
+use Rattle.wire.specs.Messages.{rows, row_of, command_reserved, confirm_reserved, any_masked, reserved_set}
 use Rattle.wire.proofs.Table.{every, at, cond_ind, neither}
 
 -- a mask for each of the first 17 bytes, with the reserved bits set: a command's, CONFIRM STATUS's, then those of the

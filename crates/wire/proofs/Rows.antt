@@ -1,12 +1,11 @@
 -- The row of a code in the table of messages, the message of a row, and what is read, case by case.
 -- Assumes nothing.
-use Rattle.std.specs.Prelude.{ℕ, ◌+◌, ◌/◌, ◌≤◌, ◌<◌, ◌≡◌, false, not, List, Option, Some, None, Result, Ok, Err, length, get_or, ltb, eqb, nat_lt}
-use Rattle.std.specs.List.{position_or_len}
+use Rattle.std.specs.Prelude.{ℕ, ◌≤◌, ◌<◌, ◌≡◌, false, not, List, Option, Some, None, Result, Ok, Err, length, get_or, ltb, eqb, nat_lt}
 use Rattle.std.proofs.lemmas.List.Sums.{prefix_len-le-length, passes_at_first}
 use Rattle.std.proofs.lemmas.Option.{none-some, same_Some}
 use mathlib.Core.Path.{sym, ◌∙◌, subst}
 use native.Mathlib.Omega.{arith}
-use borrow.Author.Tests.{lt-ltb, le-ltb, ltb-true, ltb-false, eq-eqb, ne_eqb, eqb-true, eqb-false, not-true, not-false}
+use borrow.Author.Tests.{le-ltb, ltb-true, ltb-false, eq-eqb, ne_eqb, eqb-true, eqb-false, not-true, not-false}
 use Rattle.wire.specs.Codes.{too_short, not_handled, sms_code}
 use Rattle.wire.specs.Fields.{byte, joined, word, long}
 use Rattle.wire.specs.Messages.{codes, rows, row_of, row_found, length_of, flags_of, confirm_of, fields_of, read_of}
@@ -14,7 +13,7 @@ use Rattle.wire.proofs.Table.{cond_ind}
 use Rattle.wire.specs.declared.codes.Refusal.{Refusal}
 use Rattle.wire.specs.declared.message.Flags.{Flags}
 use Rattle.wire.specs.declared.message.Message.{Message}
-use Rattle.wire.specs.declared.message.Message.TheVariants.{Command, ConfirmStatus, AbortTask, AbortTaskSet, ClearTaskSet, TargetReset, ClearAca, UnitReset}
+use Rattle.wire.specs.declared.message.Message.TheVariants.{Command, AbortTask, AbortTaskSet, ClearTaskSet, TargetReset, ClearAca, UnitReset}
 
 -- ---- the row of a code
 
@@ -46,10 +45,6 @@ pub place_holds : (code : ℕ) → row_of code < rows → get_or codes (row_of c
 place_holds code h = eqb-true _ _ (passes_at_first (λ c. eqb c code) codes 0 h)
 
 -- ---- the message of a row
-
-pub confirm_fields : (m : List ℕ) {tag path new offset last : ℕ} → new ≡ long m 8 → offset ≡ long m 12 → last ≡ byte m 16
-    → ConfirmStatus tag path new offset (eqb (last / 128) 1) ≡ confirm_of tag path m
-confirm_fields m n o l = rw (n, o, l)
 
 module _ (m : List ℕ) {row tag path : ℕ} (t : tag ≡ word m 2) (p : path ≡ long m 4) where
   pub command : {lun b : ℕ} {f : Flags} → row ≡ 0 → lun ≡ byte m 8 → f ≡ flags_of b → b ≡ byte m 10 → Command tag path lun f ≡ fields_of row m
@@ -85,16 +80,10 @@ module _ (m : List ℕ) {row tag path : ℕ} (t : tag ≡ word m 2) (p : path �
   unfolding fields_of
   unit_reset a b c d e f g el = rw (t, p, el) (simp (ne_eqb _ _ a, ne_eqb _ _ b, ne_eqb _ _ c, ne_eqb _ _ d, ne_eqb _ _ e, ne_eqb _ _ f, ne_eqb _ _ g))
 
-pub ruleset fields_cases = (command, confirm, abort_task, abort_set, clear_set, target_reset, clear_aca, unit_reset)
-
 -- ---- what is read
 
 lt_eqb : (row n : ℕ) → row < n → eqb row n ≡ false
 lt_eqb row n h = ne_eqb row n (λ e. omega arith)
-
-pub no_codes : (m : List ℕ) → length m < 2 → Err too_short ≡ read_of m
-unfolding read_of
-no_codes m h = simp (lt-ltb _ _ h)
 
 module _ (m : List ℕ) (h : 2 ≤ length m) where
   pub not_ours : (byte m 0 ≡ sms_code → ⊥) → Err not_handled ≡ read_of m
@@ -107,10 +96,6 @@ module _ (m : List ℕ) (h : 2 ≤ length m) where
     no_row z = simp (le-ltb _ _ h, eq-eqb _ _ e, eq-eqb _ _ z)
 
     module _ {row : ℕ} (r : row ≡ row_of (byte m 1)) (z : row < rows) where
-      pub short : length m < length_of row → Err too_short ≡ read_of m
-      unfolding read_of
-      short l = simp (le-ltb _ _ h, eq-eqb _ _ e, ← r, lt_eqb _ _ z, lt-ltb _ _ l)
-
       pub whole : {x : Message} → length_of row ≤ length m → x ≡ fields_of row m → Ok x ≡ read_of m
       unfolding read_of
       whole l f = rw f (simp (le-ltb _ _ h, eq-eqb _ _ e, ← r, lt_eqb _ _ z, le-ltb _ _ l))
@@ -129,5 +114,3 @@ module _ (P : Result Message Refusal → Type 0) (m : List ℕ) where
       (λ e. cond_ind P (eqb (row_of (byte m 1)) rows) (λ z. row (ltb-false _ _ h) (eqb-true _ _ (not-false _ e)) (eqb-true _ _ z))
       (λ z. cond_ind P (ltb (length m) (length_of (row_of (byte m 1)))) (λ _. refused)
       (λ l. message (ltb-false _ _ h) (eqb-true _ _ (not-false _ e)) (omega (arith, within (byte m 1), eqb-false _ _ z)) (ltb-false _ _ l)))))
-
-pub ruleset read_cases = (row_is, in_table, none_found, no_codes, not_ours, no_row, short, whole)

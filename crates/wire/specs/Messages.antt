@@ -1,6 +1,6 @@
 -- The messages that are received (003, tables 4, 5, 11 and 14 to 19): the table of them, the fields of each, and
 -- which bytes are none.
-use Rattle.std.specs.Prelude.{ℕ, ◌+◌, ◌/◌, ◌%◌, List, [], ◌∷◌, Bool, false, cond, not, ◌||◌, Option, Result, Ok, Err, position, bit_and, length, get_or, ltb, eqb}
+use Rattle.std.specs.Prelude.{ℕ, ◌/◌, ◌%◌, List, [], ◌∷◌, Bool, false, cond, not, ◌||◌, Option, Result, Ok, Err, position, bit_and, length, get_or, ltb, eqb}
 use Rattle.std.specs.List.{position_or_len, list_any, zip}
 use Rattle.wire.specs.Codes.{too_short, not_handled, kind_of, sms_code}
 use Rattle.wire.specs.Codes.{scsi_command, confirm_status, abort_task, abort_task_set, clear_task_set, target_reset, clear_aca, logical_unit_reset}

@@ -14,6 +14,7 @@ fn length(m: &[u8]) -> usize
 }
 
 // Rule 2: the message ends before its command block does.
+#[tactic(auto, unfolding(crate::specs::Block::cut_short))]
 pub fn cut_short(m: &[u8]) -> bool
     ensures { result ≡ cut_short m.now }
 {
@@ -24,6 +25,7 @@ pub fn cut_short(m: &[u8]) -> bool
 }
 
 // Rule 9: the block's group has no length.
+#[tactic(auto, unfolding(crate::specs::Block::no_block))]
 pub fn no_length(m: &[u8]) -> bool
     ensures { result ≡ no_block m.now }
 {
@@ -31,6 +33,7 @@ pub fn no_length(m: &[u8]) -> bool
 }
 
 // Rule 10: LINK or FLAG in the block's last byte.
+#[tactic(auto, unfolding(crate::specs::Block::linked, crate::specs::Block::no_block))]
 pub fn is_linked(m: &[u8]) -> bool
     ensures { result ≡ linked m.now }
 {
@@ -42,6 +45,7 @@ pub fn is_linked(m: &[u8]) -> bool
 }
 
 // The command block as a part of the message, no copy; an empty part where the message does not hold it.
+#[tactic(auto, unfolding(crate::specs::Block::block_of, crate::specs::Block::cut_short))]
 pub fn command_block(m: &[u8]) -> &[u8]
     ensures { result.now ≡ block_of m.now }
 {

@@ -4,8 +4,8 @@ ghost use Rattle.wire.specs.Fields;
 ghost use Rattle.wire.specs.Messages.{flags_of, row_found, confirm_of, fields_of, read_of, any_masked, reserved_set};
 
 use crate::codes::{Kind, Refusal, SMS_CODE};
-use crate::fields::{byte_at, long, word};
-use crate::tables::{CODES, LENGTHS, MASKS, ROWS, WIDTH};
+use crate::fields::{byte_at, word};
+use crate::tables::{CODES, LENGTHS, MASKS};
 
 // Byte 10 of a command.
 #[derive(Clone, Copy)]
@@ -95,10 +95,12 @@ fn long_at(m: &[u8], at: usize) -> u32
     requires { at ≤ 12 }
     ensures { result ≡ Fields.long m.now at }
 {
-    long(
-        word(byte_at(m, at), byte_at(m, at + 1)),
-        word(byte_at(m, at + 2), byte_at(m, at + 3)),
-    )
+    u32::from_be_bytes([
+        byte_at(m, at),
+        byte_at(m, at + 1),
+        byte_at(m, at + 2),
+        byte_at(m, at + 3),
+    ])
 }
 
 // CONFIRM STATUS, with the fields of its table: OLD RETURN PATH ID is the path.
@@ -115,6 +117,7 @@ fn confirm_of(m: &[u8], tag: u16, path: u32) -> Message
 }
 
 // The message of a row, with the fields of its table.
+#[tactic(auto, unfolding(crate::specs::Messages::fields_of))]
 fn fields_of(m: &[u8], row: usize) -> Message
     ensures { result ≡ fields_of row m.now }
 {
@@ -143,6 +146,7 @@ fn fields_of(m: &[u8], row: usize) -> Message
 }
 
 // The message that the bytes hold, with its fields, or why it is refused.
+#[tactic(auto, unfolding(crate::specs::Messages::read_of), using(crate::proofs::Rows::row_is, crate::proofs::Rows::in_table, crate::proofs::Rows::none_found))]
 pub fn read(m: &[u8]) -> Result<Message, Refusal>
     ensures { result ≡ read_of m.now }
 {

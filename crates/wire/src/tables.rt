@@ -5,8 +5,6 @@ use crate::codes::{
     SCSI_COMMAND, TARGET_RESET,
 };
 
-pub(crate) const ROWS: usize = 8;
-
 // The S3P CODE of each row.
 pub(crate) const CODES: [u8; 8] = [
     SCSI_COMMAND,
@@ -25,8 +23,6 @@ pub(crate) const LENGTHS: [usize; 8] = [11, 17, 10, 9, 9, 8, 9, 9];
 
 // The reserved bits of the first 17 bytes of each row: a command has bytes 9, 11, 14 and 15, and bits 3 and 2 of byte
 // 10; CONFIRM STATUS bits 6 to 0 of byte 16.
-pub(crate) const WIDTH: usize = 17;
-
 const COMMAND: [u8; 17] = [0, 0, 0, 0, 0, 0, 0, 0, 0, 255, 12, 255, 0, 0, 255, 255, 0];
 
 const CONFIRM: [u8; 17] = [0, 0, 0, 0, 0, 0, 0, 0, 0, 0, 0, 0, 0, 0, 0, 0, 127];

@@ -1,7 +1,6 @@
 -- `wire::message::reserved_set` meets its contract. Assumes nothing.
 use Rattle.std.specs.Prelude.{◌≡◌}
 use mathlib.Core.Path.{refl, ◌∙◌}
-use Rattle.wire.specs.Fields.{byte}
 use Rattle.wire.specs.Messages.{rows, row_of}
 use Rattle.wire.proofs.Rows.{row_is, none_found}
 use Rattle.wire.proofs.Masks.{masked_is, no_row}
