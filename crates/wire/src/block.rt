@@ -18,10 +18,7 @@ fn length(m: &[u8]) -> usize
 pub fn cut_short(m: &[u8]) -> bool
     ensures { result ≡ cut_short m.now }
 {
-    if m.len() < 17 {
-        return true;
-    }
-    m.len() < 16 + length(m)
+    m.len() < 17 || m.len() < 16 + length(m)
 }
 
 // Rule 9: the block's group has no length.
@@ -38,10 +35,7 @@ pub fn is_linked(m: &[u8]) -> bool
     ensures { result ≡ linked m.now }
 {
     let n = length(m);
-    if n == 0 {
-        return false;
-    }
-    byte_at(m, 15 + n) % 4 != 0
+    n != 0 && byte_at(m, 15 + n) % 4 != 0
 }
 
 // The command block as a part of the message, no copy; an empty part where the message does not hold it.
@@ -49,12 +43,8 @@ pub fn is_linked(m: &[u8]) -> bool
 pub fn command_block(m: &[u8]) -> &[u8]
     ensures { result.now ≡ block_of m.now }
 {
-    if m.len() < 17 {
-        return &m[..0];
+    if cut_short(m) {
+        return &[];
     }
-    let end = 16 + length(m);
-    if m.len() < end {
-        return &m[..0];
-    }
-    &m[16..end]
+    &m[16..16 + length(m)]
 }
