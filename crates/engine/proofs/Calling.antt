@@ -25,7 +25,7 @@ use Rattle.reply.specs.declared.Reply.{Reply}
 use Rattle.reply.specs.declared.Reply.TheVariants as reply
 use Rattle.task.specs.Map.{gone}
 use Rattle.task.specs.Selections.{every_task, running_on, waiting_on, aca_waiting_on, running_as}
-use Rattle.task.specs.declared.Kind.{Kind}
+use Rattle.wire.specs.declared.codes.Kind.{Kind}
 use Rattle.task.specs.declared.Sequel.{Sequel}
 use Rattle.task.specs.declared.select.Place.TheVariants.{Anywhere}
 use Rattle.task.specs.declared.scan.Pick.{Pick}

@@ -13,7 +13,7 @@ use Rattle.wire.specs.declared.codes.Queue.{Queue}
 use Rattle.wire.specs.declared.message.Flags.{Flags}
 use Rattle.task.specs.Tasks.{is_aca}
 use Rattle.task.specs.Selections.{picks, every_task, named, on_unit, aca_on, aca_from_on, running_on, waiting_on, aca_waiting_on}
-use Rattle.task.specs.declared.Kind.TheVariants as kind
+use Rattle.wire.specs.declared.codes.Kind.TheVariants as kind
 use Rattle.task.specs.declared.Task.{Task}
 use Rattle.task.specs.declared.select.Place.TheVariants.{Anywhere, On}
 use Rattle.wire.proofs.Table.{cond_ind}

@@ -34,10 +34,10 @@ fn heard(sound: bool, room: usize, m: &[u8]) -> Asked
     ensures { result ≡ heard_of sound room m.now }
 {
     if !sound {
-        return Asked::Unread(Refusal::NOT_SOUND);
+        return Asked::Unread(Refusal::NotSound);
     }
     if room < REPLY_ROOM {
-        return Asked::Unread(Refusal::SMALL_BUFFER);
+        return Asked::Unread(Refusal::SmallBuffer);
     }
     plan::ask(wire::message::read(m))
 }
@@ -73,7 +73,7 @@ fn plan_for(s: Lookup, next: u64, p: u8, tag: u16, m: &[u8], w: Request) -> Plan
     ensures { result ≡ cond (ltb p 8) (plan_of s next p tag m.now w) (refusing Codes.unknown_path) }
 {
     if p as usize >= PATHS {
-        return plan::refuse(Refusal::UNKNOWN_PATH);
+        return plan::refuse(Refusal::UnknownPath);
     }
     plan::find_plan(s, next, p, tag, m, w)
 }
@@ -198,16 +198,16 @@ fn choose(checked: bool, attached: bool, busy: bool, p: Pick) -> Verdict
     ensures { result ≡ chosen_by checked attached busy p }
 {
     if !checked {
-        return reject(Refusal::NOT_SOUND);
+        return reject(Refusal::NotSound);
     }
     if !attached {
-        return reject(Refusal::NOT_ATTACHED);
+        return reject(Refusal::NotAttached);
     }
     if busy {
-        return reject(Refusal::UNIT_BUSY);
+        return reject(Refusal::UnitBusy);
     }
     if !p.found {
-        return reject(Refusal::NOTHING_TO_START);
+        return reject(Refusal::NothingToStart);
     }
     let a = p.task;
     Verdict {
@@ -280,16 +280,16 @@ fn judge(checked: bool, n: usize, status: StatusByte, sense: Sense, p: Pick, id:
     ensures { result ≡ judged_by checked n status sense p id }
 {
     if !checked {
-        return reject(Refusal::NOT_SOUND);
+        return reject(Refusal::NotSound);
     }
     if n < REPLY_ROOM {
-        return reject(Refusal::SMALL_BUFFER);
+        return reject(Refusal::SmallBuffer);
     }
     if !may_finish(status, sense) {
-        return reject(Refusal::BAD_STATUS);
+        return reject(Refusal::BadStatus);
     }
     if !p.found {
-        return reject(Refusal::NOT_RUNNING);
+        return reject(Refusal::NotRunning);
     }
     let a = p.task;
     Verdict {
@@ -349,7 +349,7 @@ pub fn finish(
 pub fn total_reset(mut t: Table) -> Outcome
     ensures { TotalResetContract t result }
 {
-    let mut answer = Answer::Refused(Refusal::NOT_SOUND);
+    let mut answer = Answer::Refused(Refusal::NotSound);
     let before = t.live;
     let mut stops: u8 = 0;
     if is_sound(t) {
@@ -379,7 +379,7 @@ pub fn setup(ids: &[u32], attached: u8, first: u64) -> Outcome
     let t = Table::new(ids, attached, first);
     let mut answer = Answer::Ready;
     if table::setup::bad_list(ids) {
-        answer = Answer::Refused(Refusal::BAD_PATHS);
+        answer = Answer::Refused(Refusal::BadPaths);
     }
     Outcome {
         table: t,

@@ -11,8 +11,8 @@ use lib.Dec.{eqb}
 use borrow.Author.Tests.{eq-eqb, eqb-true}
 use Rattle.task.specs.Index.{one}
 use Rattle.task.specs.Tasks.{has_confirm, kind_number, phase_number}
-use Rattle.task.specs.declared.Kind.{Kind}
-use Rattle.task.specs.declared.Kind.TheVariants as kind
+use Rattle.wire.specs.declared.codes.Kind.{Kind}
+use Rattle.wire.specs.declared.codes.Kind.TheVariants as kind
 use Rattle.task.specs.declared.Phase.{Phase}
 use Rattle.task.specs.declared.Phase.TheVariants as phase
 use Rattle.task.specs.declared.Sequel.{Sequel}

@@ -19,7 +19,7 @@ use Rattle.wire.specs.declared.codes.Sense.{Sense}
 use Rattle.wire.specs.declared.message.Flags.{Flags}
 use Rattle.task.specs.Tasks.{is_running, has_confirm, runs, awaits, restarts}
 use Rattle.task.specs.Selections.{picks, every_task, named, numbered_as, running_as}
-use Rattle.task.specs.declared.Kind.{Kind}
+use Rattle.wire.specs.declared.codes.Kind.{Kind}
 use Rattle.task.specs.declared.Sequel.{Sequel}
 use Rattle.task.specs.declared.Task.{Task}
 use Rattle.task.specs.declared.select.Selection.{Selection}

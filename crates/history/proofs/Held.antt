@@ -17,7 +17,7 @@ use Rattle.wire.specs.declared.message.Flags.{Flags}
 use Rattle.task.specs.Map.{lowest_free}
 use Rattle.task.specs.Tasks.{is_aca, is_running, runs, awaits}
 use Rattle.task.specs.Selections.{picks, named, waiting_on, aca_waiting_on, running_as}
-use Rattle.task.specs.declared.Kind.{Kind}
+use Rattle.wire.specs.declared.codes.Kind.{Kind}
 use Rattle.task.specs.declared.Sequel.{Sequel}
 use Rattle.task.specs.declared.Task.{Task}
 use Rattle.task.specs.declared.select.Selection.{Selection}

@@ -12,7 +12,7 @@ use Rattle.wire.specs.Codes
 use Rattle.wire.specs.declared.message.Flags.{Flags}
 use Rattle.task.specs.Map.{lowest_free}
 use Rattle.task.specs.Selections.{picks, named}
-use Rattle.task.specs.declared.Kind.{Kind}
+use Rattle.wire.specs.declared.codes.Kind.{Kind}
 use Rattle.task.specs.declared.Sequel.{Sequel}
 use Rattle.task.specs.declared.Task.{Task}
 use Rattle.task.specs.declared.scan.Pick.{Pick}

@@ -11,7 +11,7 @@ use Rattle.reply.specs.declared.Reply.TheVariants as reply
 use Rattle.task.specs.Index.{first}
 use Rattle.task.specs.Tasks.{has_confirm, accepted_as, runs, awaits, restarts}
 use Rattle.task.specs.Selections.{picks, every_task, numbered_as}
-use Rattle.task.specs.declared.Kind.{Kind}
+use Rattle.wire.specs.declared.codes.Kind.{Kind}
 use Rattle.task.specs.declared.Sequel.{Sequel}
 use Rattle.task.specs.declared.Task.{Task}
 use Rattle.task.specs.declared.select.Selection.{Selection}

@@ -2,7 +2,7 @@
 -- events, the ledgers of the engine's calls on them, and what those calls say that they ended.
 use Rattle.std.specs.Prelude.{ℕ, ◌≡◌, List, [], ◌∷◌, ◌++◌, map, replicate}
 use Rattle.wire.specs.Codes
-use Rattle.task.specs.declared.Kind.TheVariants.{Simple}
+use Rattle.wire.specs.declared.codes.Kind.TheVariants.{Simple}
 use Rattle.task.specs.declared.Phase.{Phase}
 use Rattle.task.specs.declared.Phase.TheVariants.{Waiting, Running, Unconfirmed}
 use Rattle.task.specs.declared.Sequel.{Sequel}

@@ -2,4 +2,3 @@
 -- crate's own functions.
 pub mod Unique
 pub mod Promises
-mod Planning

@@ -16,6 +16,7 @@ use Rattle.rules.specs.declared.facts.Facts.{Facts}
 use Rattle.rules.specs.declared.facts.Lookup.{Lookup}
 use Rattle.rules.specs.declared.manage.Order.{Order}
 use Rattle.rules.specs.declared.manage.Order.TheVariants as order
+use Rattle.std.specs.Prelude.{Ok}
 use Rattle.plan.specs.Plans.{clears_set, goes_by_unit, order_plan, plan_of}
 use Rattle.plan.specs.Promises.{KindIsQueue}
 use Rattle.plan.specs.declared.Request.{Request}
@@ -30,10 +31,10 @@ kind_is_queue (suc (suc zero)) l = refl
 kind_is_queue (suc (suc (suc zero))) l = refl
 kind_is_queue (suc (suc (suc (suc n)))) l = absurd (omega arith)
 
-pub order_answer : (f : Facts) (others p tag : ℕ) (m : List ℕ) (o : Order) → (order_plan f others p tag m o).answer ≡ answer.Reply (reply.Response tag (order_code f m o))
+pub order_answer : (f : Facts) (others p tag : ℕ) (m : List ℕ) (o : Order) → (order_plan f others p tag m o).answer ≡ Ok (answer.Reply (reply.Response tag (order_code f m o)))
 unfolding order_plan
 order_answer f others p tag m o =
-    cond_ind (λ (pl : Plan). pl.answer ≡ answer.Reply (reply.Response tag (order_code f m o))) (eqb (order_code f m o).0 (Codes.done).0) (λ _. refl) (λ _. refl)
+    cond_ind (λ (pl : Plan). pl.answer ≡ Ok (answer.Reply (reply.Response tag (order_code f m o)))) (eqb (order_code f m o).0 (Codes.done).0) (λ _. refl) (λ _. refl)
 
 -- CLEAR TASK SET alone looks at the other paths that have a task on the unit
 module _ (f : Facts) (own : Pick) (x y : ℕ) where

@@ -1,11 +1,10 @@
 -- The plan of an answer: what a message asks, what is answered, and what that does to paths and units (the change)
 -- and to the records.
-use Rattle.std.specs.Prelude.{ℕ, Bool, true, false, cond, not, ◌&&◌, List, eqb, ltb}
+use Rattle.std.specs.Prelude.{ℕ, Result, Ok, Err, Bool, true, false, cond, not, ◌&&◌, List, eqb, ltb}
 use Rattle.std.proofs.Math.Option.{Option, none, some}
 use Rattle.wire.specs.Codes
 use Rattle.wire.specs.Messages.{reserved_set}
 use Rattle.wire.specs.declared.codes.Refusal.{Refusal}
-use Rattle.wire.specs.declared.codes.Queue.{Queue}
 use Rattle.wire.specs.declared.message.Flags.{Flags}
 use Rattle.wire.specs.declared.message.Message.{Message}
 use Rattle.wire.specs.declared.message.Message.TheVariants as message
@@ -14,8 +13,8 @@ use Rattle.reply.specs.declared.Reply.TheVariants as reply
 use Rattle.task.specs.Tasks.{is_unconfirmed, transferred_of}
 use Rattle.task.specs.Selections.{numbered_as}
 use Rattle.task.specs.declared.scan.Pick.{Pick}
-use Rattle.task.specs.declared.Kind.{Kind}
-use Rattle.task.specs.declared.Kind.TheVariants as kind
+use Rattle.wire.specs.declared.codes.Kind.{Kind}
+use Rattle.wire.specs.declared.codes.Kind.TheVariants as kind
 use Rattle.task.specs.declared.Sequel.{Sequel}
 use Rattle.task.specs.declared.Sequel.TheVariants as sequel
 use Rattle.task.specs.declared.select.Place.TheVariants.{On}
@@ -39,7 +38,6 @@ use Rattle.rules.specs.declared.manage.Order.TheVariants as order
 use Rattle.plan.specs.declared.Request.{Request}
 use Rattle.plan.specs.declared.Request.TheVariants.{Command, Manage, Confirm}
 use Rattle.plan.specs.declared.Asked.{Asked}
-use Rattle.plan.specs.declared.Asked.TheVariants.{By, Unread}
 use Rattle.plan.specs.declared.RecordChange.{RecordChange}
 use Rattle.plan.specs.declared.RecordChange.TheVariants as records
 use Rattle.plan.specs.declared.Plan.{Plan}
@@ -49,16 +47,22 @@ use Rattle.plan.specs.declared.Answer.TheVariants as answer
 -- ---- what a message asks: its RETURN PATH ID (OLD RETURN PATH ID of CONFIRM STATUS), its TAG, and a command, an order or a confirmation; or the reader's refusal.
 -- NEW RETURN PATH ID is not looked at
 
+abbrev pub asking : ℕ → ℕ → Request → Asked
+asking path tag w = record { path = path; tag = tag; request = w }
+
 abbrev pub asked_of : Message → Asked
-asked_of (message.Command tag path lun flags) = By path tag (Command lun flags)
-asked_of (message.ConfirmStatus tag path newPath offset complete) = By path tag (Confirm offset complete)
-asked_of (message.AbortTask tag path tag2) = By path tag (Manage (order.AbortTask tag2))
-asked_of (message.AbortTaskSet tag path lun) = By path tag (Manage (order.AbortTaskSet lun))
-asked_of (message.ClearTaskSet tag path lun) = By path tag (Manage (order.ClearTaskSet lun))
-asked_of (message.TargetReset tag path) = By path tag (Manage order.TargetReset)
-asked_of (message.ClearAca tag path lun) = By path tag (Manage (order.ClearAca lun))
-asked_of (message.UnitReset tag path lun) = By path tag (Manage (order.UnitReset lun))
-asked_of (message.Refused n) = Unread n
+asked_of (message.Command tag path lun flags) = asking path tag (Command lun flags)
+asked_of (message.ConfirmStatus tag path newPath offset complete) = asking path tag (Confirm offset complete)
+asked_of (message.AbortTask tag path tag2) = asking path tag (Manage (order.AbortTask tag2))
+asked_of (message.AbortTaskSet tag path lun) = asking path tag (Manage (order.AbortTaskSet lun))
+asked_of (message.ClearTaskSet tag path lun) = asking path tag (Manage (order.ClearTaskSet lun))
+asked_of (message.TargetReset tag path) = asking path tag (Manage order.TargetReset)
+asked_of (message.ClearAca tag path lun) = asking path tag (Manage (order.ClearAca lun))
+asked_of (message.UnitReset tag path lun) = asking path tag (Manage (order.UnitReset lun))
+
+abbrev pub asked_in : Result Message Refusal → Result Asked Refusal
+asked_in (Ok g) = Ok (asked_of g)
+asked_in (Err n) = Err n
 
 -- the tag and the unit that are asked about: the message's own, or those that an order names; 0 where there is no
 -- unit
@@ -83,36 +87,30 @@ goes_by_unit (Command lun flags) = false
 goes_by_unit (Manage o) = by_unit o
 goes_by_unit (Confirm offset complete) = false
 
--- QUEUE CNTL
-abbrev pub kind_of : Queue → Kind
-kind_of q =
-    cond (eqb q.0 (Codes.queue_aca).0) kind.Aca
-    (cond (eqb q.0 (Codes.queue_head).0) kind.Head (cond (eqb q.0 (Codes.queue_ordered).0) kind.Ordered kind.Simple))
-
 -- what follows the finish of a command: with CONFIRM it waits to be confirmed
 abbrev pub sequel_of : Bool → Sequel
 sequel_of confirm = cond confirm sequel.Confirm sequel.End
 
 -- ---- the reply that an answer is
 
-abbrev pub reply_of : Answer → Option Reply
-reply_of answer.Ready = none
-reply_of (answer.Accepted n) = none
-reply_of (answer.Reply r) = some r
-reply_of (answer.Started offset arrival) = none
-reply_of (answer.Confirmed n) = none
-reply_of (answer.Restarted n) = none
-reply_of answer.Reset = none
-reply_of (answer.Refused n) = none
+abbrev pub reply_of : Result Answer Refusal → Option Reply
+reply_of (Ok answer.Ready) = none
+reply_of (Ok (answer.Accepted n)) = none
+reply_of (Ok (answer.Reply r)) = some r
+reply_of (Ok (answer.Started offset arrival)) = none
+reply_of (Ok (answer.Confirmed n)) = none
+reply_of (Ok (answer.Restarted n)) = none
+reply_of (Ok answer.Reset) = none
+reply_of (Err n) = none
 
 -- ---- the plan
 
-abbrev pub planned : Answer → Change → RecordChange → Plan
+abbrev pub planned : Result Answer Refusal → Change → RecordChange → Plan
 planned a c d = record { answer = a; change = c; records = d }
 
 -- a refusal changes nothing
 abbrev pub refusing : Refusal → Plan
-refusing n = planned (answer.Refused n) change.Nothing records.Nothing
+refusing n = planned (Err n) change.Nothing records.Nothing
 
 -- a STATUS to a command of the path at p: what it does to its sender and, where the rule holds the queue, to its unit
 abbrev pub report_change : ℕ → ℕ → SenderChange → QueueChange → Change
@@ -122,17 +120,17 @@ report_change p lun sender Holds = change.Holding p sender lun
 -- a ruling on a command of the path at p with a TAG, a LUN and flags, under the next arrival number
 abbrev pub ruled : ℕ → ℕ → ℕ → ℕ → Flags → Ruling → Plan
 ruled next p tag lun flags (Refuse n) = refusing n
-ruled next p tag lun flags (Respond code sender) = planned (answer.Reply (reply.Response tag code)) (change.OfSender p sender) records.Nothing
-ruled next p tag lun flags (Report status sense sender queue) = planned (answer.Reply (reply.Status tag status sense)) (report_change p lun sender queue) records.Nothing
-ruled next p tag lun flags (Invalid sender) = planned (answer.Reply (reply.Invalid tag)) (change.OfSender p sender) records.Nothing
-ruled next p tag lun flags Accept = planned (answer.Accepted next) (change.OfSender p ClearMark) (records.Accept p tag lun (kind_of flags.queue) (sequel_of flags.confirm))
+ruled next p tag lun flags (Respond code sender) = planned (Ok (answer.Reply (reply.Response tag code))) (change.OfSender p sender) records.Nothing
+ruled next p tag lun flags (Report status sense sender queue) = planned (Ok (answer.Reply (reply.Status tag status sense))) (report_change p lun sender queue) records.Nothing
+ruled next p tag lun flags (Invalid sender) = planned (Ok (answer.Reply (reply.Invalid tag))) (change.OfSender p sender) records.Nothing
+ruled next p tag lun flags Accept = planned (Ok (answer.Accepted next)) (change.OfSender p ClearMark) (records.Accept p tag lun flags.queue (sequel_of flags.confirm))
 
 -- an order of the path at p changes the table only where it is answered 00h
 unfoldable pub order_plan : Facts → ℕ → ℕ → ℕ → List ℕ → Order → Plan
 order_plan f others p tag m o =
     cond (eqb (order_code f m o).0 (Codes.done).0)
-    (planned (answer.Reply (reply.Response tag (order_code f m o))) (order_change others o) (records.End (ends_of p o)))
-    (planned (answer.Reply (reply.Response tag (order_code f m o))) change.Nothing records.Nothing)
+    (planned (Ok (answer.Reply (reply.Response tag (order_code f m o)))) (order_change others o) (records.End (ends_of p o)))
+    (planned (Ok (answer.Reply (reply.Response tag (order_code f m o)))) change.Nothing records.Nothing)
 
 -- the sender's task with the tag waits to be confirmed: a waiting or running one does not
 abbrev pub is_awaited : Pick → Bool
@@ -143,11 +141,11 @@ is_awaited own = own.found && is_unconfirmed own.task.phase
 -- task waits again, to start there. Neither the mark nor the attention of the sender is looked at
 unfoldable pub confirm_plan : Pick → ℕ → ℕ → List ℕ → ℕ → Bool → Plan
 confirm_plan own p tag m offset complete =
-    cond (reserved_set m) (planned (answer.Reply (reply.Response tag Codes.invalid_field)) change.Nothing records.Nothing)
+    cond (reserved_set m) (planned (Ok (answer.Reply (reply.Response tag Codes.invalid_field))) change.Nothing records.Nothing)
     (cond (not (is_awaited own)) (refusing Codes.nothing_to_confirm)
-    (cond complete (planned (answer.Confirmed own.task.arrival) change.Nothing (records.Complete (numbered_as own.task.arrival p tag)))
-    (cond (ltb (transferred_of own.task) offset) (planned (answer.Reply (reply.Response tag Codes.invalid_field)) change.Nothing records.Nothing)
-    (planned (answer.Restarted own.task.arrival) change.Nothing (records.Restart own.at offset)))))
+    (cond complete (planned (Ok (answer.Confirmed own.task.arrival)) change.Nothing (records.Complete (numbered_as own.task.arrival p tag)))
+    (cond (ltb (transferred_of own.task) offset) (planned (Ok (answer.Reply (reply.Response tag Codes.invalid_field))) change.Nothing records.Nothing)
+    (planned (Ok (answer.Restarted own.task.arrival)) change.Nothing (records.Restart own.at offset)))))
 
 abbrev pub plan_of : Lookup → ℕ → ℕ → ℕ → List ℕ → Request → Plan
 plan_of s next p tag m (Command lun flags) = ruled next p tag lun flags (deciding s.facts flags m).gives

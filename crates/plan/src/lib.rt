@@ -2,7 +2,7 @@
 #![tactic(auto)]
 
 ghost use Rattle.std.specs.Prelude.{◌≡◌};
-ghost use Rattle.plan.specs.Plans.{asked_of, tag_asked, unit_asked, clears_set, goes_by_unit, kind_of, sequel_of, planned, refusing, report_change, ruled, order_plan, is_awaited, confirm_plan, plan_of, sender_after, paths_after, units_after};
+ghost use Rattle.plan.specs.Plans.{asking, asked_of, tag_asked, unit_asked, clears_set, goes_by_unit, sequel_of, planned, refusing, report_change, ruled, order_plan, is_awaited, confirm_plan, plan_of, sender_after, paths_after, units_after};
 
 use reply::Reply;
 use rules::change::{Change, QueueChange, SenderChange};
@@ -13,7 +13,7 @@ use table::{PATHS, Path, UNITS, Unit};
 use task::scan::Pick;
 use task::select::{Place, Selection};
 use task::{Kind, Phase, Sequel};
-use wire::codes::{Queue, Refusal, ReturnCode};
+use wire::codes::{Refusal, ReturnCode};
 use wire::message::{Flags, Message};
 
 // What is asked for: a command's queueing, an order, or what is to become of a task that waits to be confirmed.
@@ -24,15 +24,12 @@ pub enum Request {
     Confirm { offset: u32, complete: bool },
 }
 
-// Who asks for it, under which tag; or why nothing is heard.
+// What is asked for, who asks for it and under which tag.
 #[derive(Clone, Copy)]
-pub enum Asked {
-    By {
-        path: u32,
-        tag: u16,
-        request: Request,
-    },
-    Unread(Refusal),
+pub struct Asked {
+    pub path: u32,
+    pub tag: u16,
+    pub request: Request,
 }
 
 // What happens to the records.
@@ -59,7 +56,7 @@ pub enum RecordChange {
     },
 }
 
-// What a call answers. Reply is the one that leaves bytes in the reply buffer.
+// What a call answers that is not refused. Reply is the one that leaves bytes in the reply buffer.
 #[derive(Clone, Copy)]
 pub enum Answer {
     Ready,
@@ -69,25 +66,21 @@ pub enum Answer {
     Confirmed(u64),
     Restarted(u64),
     Reset,
-    Refused(Refusal),
 }
 
-// The answer, and what it does to the table. A refusal does nothing.
+// The answer, or why the message is refused, and what that does to the table. A refusal does nothing.
 #[derive(Clone, Copy)]
 pub struct Plan {
-    pub answer: Answer,
+    pub answer: Result<Answer, Refusal>,
     pub change: Change,
     pub records: RecordChange,
 }
 
 fn order(path: u32, tag: u16, o: Order) -> Asked
-    ensures { result ≡ Asked.By path tag (Request.Manage o) }
+    ensures { result ≡ asking path tag (Request.Manage o) }
 {
-    Asked::By {
-        path,
-        tag,
-        request: Request::Manage(o),
-    }
+    let request = Request::Manage(o);
+    Asked { path, tag, request }
 }
 
 // What a message asks.
@@ -100,7 +93,7 @@ pub fn ask(g: Message) -> Asked
             path,
             lun,
             flags,
-        } => Asked::By {
+        } => Asked {
             path,
             tag,
             request: Request::Command { lun, flags },
@@ -111,7 +104,7 @@ pub fn ask(g: Message) -> Asked
             new_path: _,
             offset,
             complete,
-        } => Asked::By {
+        } => Asked {
             path,
             tag,
             request: Request::Confirm { offset, complete },
@@ -122,7 +115,6 @@ pub fn ask(g: Message) -> Asked
         Message::TargetReset { tag, path } => order(path, tag, Order::TargetReset),
         Message::ClearAca { tag, path, lun } => order(path, tag, Order::ClearAca(lun)),
         Message::UnitReset { tag, path, lun } => order(path, tag, Order::UnitReset(lun)),
-        Message::Refused(n) => Asked::Unread(n),
     }
 }
 
@@ -181,21 +173,6 @@ pub fn goes_by_unit(w: Request) -> bool
     }
 }
 
-fn kind_of(q: Queue) -> Kind
-    ensures { result ≡ kind_of q }
-{
-    if q.0 == Queue::ACA.0 {
-        return Kind::Aca;
-    }
-    if q.0 == Queue::HEAD.0 {
-        return Kind::Head;
-    }
-    if q.0 == Queue::ORDERED.0 {
-        return Kind::Ordered;
-    }
-    Kind::Simple
-}
-
 // What follows the finish of a command, by its CONFIRM bit.
 fn sequel_of(confirm: bool) -> Sequel
     ensures { result ≡ sequel_of confirm }
@@ -207,7 +184,7 @@ fn sequel_of(confirm: bool) -> Sequel
 }
 
 // An answer that leaves the table as it is.
-fn tell(answer: Answer) -> Plan
+fn tell(answer: Result<Answer, Refusal>) -> Plan
     ensures { result ≡ planned answer Change.Nothing RecordChange.Nothing }
 {
     Plan {
@@ -221,7 +198,7 @@ fn tell(answer: Answer) -> Plan
 pub fn refuse(n: Refusal) -> Plan
     ensures { result ≡ refusing n }
 {
-    tell(Answer::Refused(n))
+    tell(Err(n))
 }
 
 // What a STATUS to a command of the path at p does: to its sender, and to the queue of its unit.
@@ -245,33 +222,30 @@ fn rule(next: u64, p: u8, tag: u16, lun: u8, flags: Flags, r: Ruling) -> Plan
     match r {
         Ruling::Refuse(n) => refuse(n),
         Ruling::Respond(code, sender) => Plan {
-            answer: Answer::Reply(Reply::Response { tag, code }),
+            answer: Ok(Answer::Reply(Reply::Response { tag, code })),
             change: Change::OfSender(p, sender),
             records: RecordChange::Nothing,
         },
         Ruling::Report(status, sense, sender, queue) => Plan {
-            answer: Answer::Reply(Reply::Status { tag, status, sense }),
+            answer: Ok(Answer::Reply(Reply::Status { tag, status, sense })),
             change: report_change(p, lun, sender, queue),
             records: RecordChange::Nothing,
         },
         Ruling::Invalid(sender) => Plan {
-            answer: Answer::Reply(Reply::Invalid { tag }),
+            answer: Ok(Answer::Reply(Reply::Invalid { tag })),
             change: Change::OfSender(p, sender),
             records: RecordChange::Nothing,
         },
         Ruling::Accept => {
-            let queue = flags.queue;
-            let kind = kind_of(queue);
-            let sequel = sequel_of(flags.confirm);
             Plan {
-                answer: Answer::Accepted(next),
+                answer: Ok(Answer::Accepted(next)),
                 change: Change::OfSender(p, SenderChange::ClearMark),
                 records: RecordChange::Accept {
                     path: p,
                     tag,
                     lun,
-                    kind,
-                    sequel,
+                    kind: flags.queue,
+                    sequel: sequel_of(flags.confirm),
                 },
             }
         }
@@ -279,11 +253,12 @@ fn rule(next: u64, p: u8, tag: u16, lun: u8, flags: Flags, r: Ruling) -> Plan
 }
 
 // The plan for an order of the path at p: it changes the table only where it is answered 00h.
+#[tactic(auto, unfolding(crate::specs::Plans::order_plan))]
 fn plan_order(f: Facts, others: u8, p: u8, tag: u16, m: &[u8], o: Order) -> Plan
     ensures { result ≡ order_plan f others p tag m.now o }
 {
     let code = rules::manage::order_code(f, m, o);
-    let answer = Answer::Reply(Reply::Response { tag, code });
+    let answer = Ok(Answer::Reply(Reply::Response { tag, code }));
     if code.0 == ReturnCode::DONE.0 {
         return Plan {
             answer,
@@ -312,30 +287,31 @@ fn is_awaited(p: Pick) -> bool
 
 // The plan for CONFIRM STATUS of the path at p, whose task with the tag is its own: it is ended, or it waits again
 // where the offset lies within the bytes transferred.
+#[tactic(auto, unfolding(crate::specs::Plans::confirm_plan))]
 fn plan_confirm(own: Pick, p: u8, tag: u16, m: &[u8], offset: u32, complete: bool) -> Plan
     ensures { result ≡ confirm_plan own p tag m.now offset complete }
 {
     let code = ReturnCode::INVALID_FIELD;
     if wire::message::reserved_set(m) {
-        return tell(Answer::Reply(Reply::Response { tag, code }));
+        return tell(Ok(Answer::Reply(Reply::Response { tag, code })));
     }
     if !is_awaited(own) {
-        return refuse(Refusal::NOTHING_TO_CONFIRM);
+        return refuse(Refusal::NothingToConfirm);
     }
     let task = own.task;
     let arrival = task.arrival;
     if complete {
         return Plan {
-            answer: Answer::Confirmed(arrival),
+            answer: Ok(Answer::Confirmed(arrival)),
             change: Change::Nothing,
             records: RecordChange::Complete(Selection::numbered_as(arrival, p, tag)),
         };
     }
     if offset as u64 > task.position {
-        return tell(Answer::Reply(Reply::Response { tag, code }));
+        return tell(Ok(Answer::Reply(Reply::Response { tag, code })));
     }
     Plan {
-        answer: Answer::Restarted(arrival),
+        answer: Ok(Answer::Restarted(arrival)),
         change: Change::Nothing,
         records: RecordChange::Restart {
             place: own.at,

@@ -169,10 +169,10 @@ pub fn write(r: Reply, buf: &mut [u8]) -> Written
     ensures { Writes r buf.old result buf.new }
 {
     if buf.len() < REPLY_ROOM {
-        return Written::Refused(Refusal::SMALL_BUFFER);
+        return Written::Refused(Refusal::SmallBuffer);
     }
     if !writable(r) {
-        return Written::Refused(Refusal::NOT_WRITABLE);
+        return Written::Refused(Refusal::NotWritable);
     }
     match r {
         Reply::Response { tag, code } => {
@@ -232,10 +232,10 @@ fn fit(r: Reply, b: &[u8]) -> Found
     ensures { result ≡ fitted r b.now }
 {
     if !writable(r) {
-        return Found::Refused(Refusal::NOT_WRITABLE);
+        return Found::Refused(Refusal::NotWritable);
     }
     if !stands(r, b) {
-        return Found::Refused(Refusal::NOT_WRITABLE);
+        return Found::Refused(Refusal::NotWritable);
     }
     Found::Reply(r)
 }
@@ -274,23 +274,23 @@ pub fn read(b: &[u8]) -> Found
     ensures { result ≡ found_in b.now }
 {
     if b.len() < 2 {
-        return Found::Refused(Refusal::TOO_SHORT);
+        return Found::Refused(Refusal::TooShort);
     }
     if b[0] != SMS_CODE {
-        return Found::Refused(Refusal::NOT_HANDLED);
+        return Found::Refused(Refusal::NotHandled);
     }
     let code = b[1];
     if code == SCSI_RESPONSE {
         if b.len() < RESPONSE_LENGTH {
-            return Found::Refused(Refusal::TOO_SHORT);
+            return Found::Refused(Refusal::TooShort);
         }
         return fit(as_response(b), b);
     }
     if code == SCSI_STATUS {
         if b.len() < STATUS_LENGTH {
-            return Found::Refused(Refusal::TOO_SHORT);
+            return Found::Refused(Refusal::TooShort);
         }
         return fit(as_status(b), b);
     }
-    Found::Refused(Refusal::NOT_HANDLED)
+    Found::Refused(Refusal::NotHandled)
 }

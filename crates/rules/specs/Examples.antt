@@ -2,8 +2,8 @@
 use Rattle.std.specs.Prelude.{ℕ, ◌≡◌, Bool, true, false, List, [], ◌∷◌, map}
 use Rattle.task.specs.Selections.{picks}
 use Rattle.task.specs.declared.Task.{Task}
-use Rattle.task.specs.declared.Kind.{Kind}
-use Rattle.task.specs.declared.Kind.TheVariants.{Aca, Simple}
+use Rattle.wire.specs.declared.codes.Kind.{Kind}
+use Rattle.wire.specs.declared.codes.Kind.TheVariants.{Aca, Simple}
 use Rattle.task.specs.declared.Phase.{Phase}
 use Rattle.task.specs.declared.Phase.TheVariants.{Waiting, Unconfirmed}
 use Rattle.task.specs.declared.Sequel.TheVariants.{Confirm}

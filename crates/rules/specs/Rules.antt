@@ -7,6 +7,7 @@ use Rattle.wire.specs.Fields.{byte, word}
 use Rattle.wire.specs.Messages.{reserved_set}
 use Rattle.wire.specs.Block.{opcode, block_length, cut_short, no_block, linked}
 use Rattle.wire.specs.declared.message.Flags.{Flags}
+use Rattle.task.specs.Tasks.{is_aca}
 use Rattle.table.specs.Tables.{is_reset, is_cleared}
 use Rattle.rules.specs.First.{Rule, rule, first_that}
 use Rattle.rules.specs.declared.facts.Facts.{Facts}
@@ -20,7 +21,7 @@ use Rattle.rules.specs.declared.command.Decision.{Decision}
 
 -- QUEUE CNTL says ACA
 abbrev pub asks_aca : Flags → Bool
-asks_aca g = eqb g.queue.0 (Codes.queue_aca).0
+asks_aca g = is_aca g.queue
 
 -- RESUME set, path not marked
 unfoldable pub resumes_unmarked : Facts → Flags → Bool

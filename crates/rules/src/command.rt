@@ -7,7 +7,7 @@ ghost use Rattle.rules.specs.Rules.{asks_aca, resumes_unmarked, misses_resume, p
 
 use crate::change::{QueueChange, SenderChange};
 use crate::facts::Facts;
-use wire::codes::{INQUIRY, Queue, REQUEST_SENSE, Refusal, ReturnCode, Sense, StatusByte};
+use wire::codes::{INQUIRY, Kind, REQUEST_SENSE, Refusal, ReturnCode, Sense, StatusByte};
 use wire::message::Flags;
 
 // What a rule answers, with what that does to the sender; with a STATUS also what it does to the queue of the unit. A
@@ -51,8 +51,7 @@ fn misses_resume(f: Facts, g: Flags) -> bool
 fn asks_aca(g: Flags) -> bool
     ensures { result ≡ asks_aca g }
 {
-    let q = g.queue;
-    q.0 == Queue::ACA.0
+    g.queue == Kind::Aca
 }
 
 // The unit has ACA, and it keeps this command out.
@@ -247,7 +246,7 @@ pub fn decide(f: Facts, g: Flags, m: &[u8]) -> Decision
         return respond(1, ReturnCode::INVALID_FIELD, SenderChange::Stays);
     }
     if misses_resume(f, g) {
-        return refuse(1, Refusal::DISCARDED);
+        return refuse(1, Refusal::Discarded);
     }
     if !f.room {
         return report(
@@ -258,7 +257,7 @@ pub fn decide(f: Facts, g: Flags, m: &[u8]) -> Decision
         );
     }
     if wire::block::cut_short(m) {
-        return refuse(2, Refusal::TOO_SHORT);
+        return refuse(2, Refusal::TooShort);
     }
     by_fields(f, g, m)
 }

@@ -16,7 +16,7 @@ use Rattle.task.specs.Index.{some_below, map_of, map_at}
 use Rattle.task.specs.Tasks.{no_task, is_aca, is_running, has_confirm, in_phase, awaits}
 use Rattle.task.specs.Map.{is_live, lowest_free, with_bit}
 use Rattle.task.specs.Selections.{picks, picks_live, every_task, named, aca_on, running_on, running_as}
-use Rattle.task.specs.declared.Kind.{Kind}
+use Rattle.wire.specs.declared.codes.Kind.{Kind}
 use Rattle.task.specs.declared.Phase.{Phase}
 use Rattle.task.specs.declared.Sequel.{Sequel}
 use Rattle.task.specs.declared.Task.{Task}

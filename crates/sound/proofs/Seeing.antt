@@ -12,7 +12,7 @@ use lib.Seq.{get_or-set_same, get_or-set_other, set_out}
 use Rattle.task.specs.Index.{first, some_below, all_below}
 use Rattle.task.specs.Tasks.{is_aca, is_running}
 use Rattle.task.specs.Map.{is_live, lowest_free, with_bit}
-use Rattle.task.specs.declared.Kind.TheVariants.{Simple}
+use Rattle.wire.specs.declared.codes.Kind.TheVariants.{Simple}
 use Rattle.task.specs.declared.Sequel.TheVariants.{End}
 use Rattle.task.specs.declared.Task.{Task}
 use Rattle.wire.proofs.Table.{cond_ind}

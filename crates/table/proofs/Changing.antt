@@ -18,7 +18,7 @@ use Rattle.task.specs.Index.{first, map_of, map_at}
 use Rattle.task.specs.Tasks.{no_task}
 use Rattle.task.specs.Map.{is_live, lowest_free, with_bit, without_bit}
 use Rattle.task.specs.Selections.{picks, picks_live}
-use Rattle.task.specs.declared.Kind.{Kind}
+use Rattle.wire.specs.declared.codes.Kind.{Kind}
 use Rattle.task.specs.declared.Sequel.{Sequel}
 use Rattle.task.specs.declared.Task.{Task}
 use Rattle.task.specs.declared.select.Selection.{Selection}

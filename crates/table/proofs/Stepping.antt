@@ -17,7 +17,7 @@ use Rattle.task.specs.Index.{some_below}
 use Rattle.task.specs.Map.{is_live}
 use Rattle.task.specs.Tasks.{has_confirm, runs, restarts, awaits}
 use Rattle.task.specs.Selections.{picks, on_unit, from_on}
-use Rattle.task.specs.declared.Kind.{Kind}
+use Rattle.wire.specs.declared.codes.Kind.{Kind}
 use Rattle.task.specs.declared.Sequel.{Sequel}
 use Rattle.task.specs.declared.Task.{Task}
 use Rattle.task.specs.declared.select.Selection.{Selection}

@@ -15,7 +15,7 @@ use Rattle.task.specs.Tasks.{no_task, is_running, has_confirm, awaits}
 use Rattle.task.specs.Map.{is_live, lowest_free}
 use Rattle.task.specs.Selections.{picks, picks_live, running_as}
 use Rattle.task.specs.Next.{Stands}
-use Rattle.task.specs.declared.Kind.{Kind}
+use Rattle.wire.specs.declared.codes.Kind.{Kind}
 use Rattle.task.specs.declared.Sequel.{Sequel}
 use Rattle.task.specs.declared.Task.{Task}
 use Rattle.task.specs.declared.select.Selection.{Selection}

@@ -5,7 +5,7 @@ use Rattle.task.specs.Tasks.{no_task, accepted_as, is_running, has_confirm, runs
 use Rattle.task.specs.Map.{is_live, lowest_free, with_bit}
 use Rattle.task.specs.Selections.{picks, picks_live, from_on, running_as}
 use Rattle.task.specs.Scan.{scan}
-use Rattle.task.specs.declared.Kind.{Kind}
+use Rattle.wire.specs.declared.codes.Kind.{Kind}
 use Rattle.task.specs.declared.Sequel.{Sequel}
 use Rattle.task.specs.declared.Task.{Task}
 use Rattle.task.specs.declared.select.Selection.{Selection}

@@ -2,7 +2,7 @@
 -- proofs/Unique.antt.
 use Rattle.std.specs.Prelude.{ℕ, Bool, List}
 use Rattle.wire.specs.Unique.{One}
-use Rattle.task.specs.declared.Kind.{Kind}
+use Rattle.wire.specs.declared.codes.Kind.{Kind}
 use Rattle.task.specs.declared.Sequel.{Sequel}
 use Rattle.task.specs.declared.Task.{Task}
 use Rattle.task.specs.declared.select.Selection.{Selection}

@@ -9,7 +9,7 @@ use Rattle.task.specs.Tasks.{kind_number, phase_number}
 use Rattle.task.specs.Map.{with_bit, without_bit}
 use Rattle.task.specs.Selections.{number_asked, whose_asked, place_asked, sort_asked, stage_asked, picks_live}
 use Rattle.task.specs.Scan.{taken_at, beats, considered}
-use Rattle.task.specs.declared.Kind.{Kind}
+use Rattle.wire.specs.declared.codes.Kind.{Kind}
 use Rattle.task.specs.declared.Phase.{Phase}
 use Rattle.task.specs.declared.Task.{Task}
 use Rattle.task.specs.declared.select.Number.{Number}

@@ -6,8 +6,8 @@ use mathlib.Core.Bool.{Bool, true, ◌&&◌, and-true}
 use lib.Dec.{eqb}
 use Rattle.task.specs.Tasks.{kind_number, phase_number, is_aca, is_running}
 use Rattle.task.specs.Selections.{number_asked, whose_asked, place_asked, sort_asked, stage_asked, picks, every_task, named, on_unit, aca_on, aca_from_on, running_on}
-use Rattle.task.specs.declared.Kind.{Kind}
-use Rattle.task.specs.declared.Kind.TheVariants as kind
+use Rattle.wire.specs.declared.codes.Kind.{Kind}
+use Rattle.wire.specs.declared.codes.Kind.TheVariants as kind
 use Rattle.task.specs.declared.Phase.{Phase}
 use Rattle.task.specs.declared.Phase.TheVariants as phase
 use Rattle.task.specs.declared.Task.{Task}

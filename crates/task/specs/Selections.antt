@@ -2,8 +2,8 @@
 use Rattle.std.specs.Prelude.{ℕ, Bool, true, ◌&&◌, eqb}
 use Rattle.task.specs.Tasks.{kind_number, phase_number}
 use Rattle.task.specs.Map.{is_live}
-use Rattle.task.specs.declared.Kind.{Kind}
-use Rattle.task.specs.declared.Kind.TheVariants as kind
+use Rattle.wire.specs.declared.codes.Kind.{Kind}
+use Rattle.wire.specs.declared.codes.Kind.TheVariants as kind
 use Rattle.task.specs.declared.Phase.{Phase}
 use Rattle.task.specs.declared.Phase.TheVariants as phase
 use Rattle.task.specs.declared.Task.{Task}

@@ -1,21 +1,14 @@
 -- A task's record: the numbers of kinds and phases, what follows its finish, what its position means, the wiped record,
 -- a task as its command is accepted, and how it changes while it is live.
 use Rattle.std.specs.Prelude.{ℕ, Bool, true, false}
-use Rattle.wire.specs.Codes
-use Rattle.task.specs.declared.Kind.{Kind}
-use Rattle.task.specs.declared.Kind.TheVariants as kind
+pub use Rattle.wire.specs.Codes.{kind_number}
+use Rattle.wire.specs.declared.codes.Kind.{Kind}
+use Rattle.wire.specs.declared.codes.Kind.TheVariants as kind
 use Rattle.task.specs.declared.Phase.{Phase}
 use Rattle.task.specs.declared.Phase.TheVariants as phase
 use Rattle.task.specs.declared.Sequel.{Sequel}
 use Rattle.task.specs.declared.Sequel.TheVariants as sequel
 use Rattle.task.specs.declared.Task.{Task}
-
--- QUEUE CNTL (003, table 6)
-abbrev pub kind_number : Kind → ℕ
-kind_number kind.Aca = (Codes.queue_aca).0
-kind_number kind.Head = (Codes.queue_head).0
-kind_number kind.Ordered = (Codes.queue_ordered).0
-kind_number kind.Simple = (Codes.queue_simple).0
 
 abbrev pub is_aca : Kind → Bool
 is_aca kind.Aca = true

@@ -6,7 +6,7 @@ use Rattle.task.specs.Map.{is_live, lowest_free, live_count, with_bit, without_b
 use Rattle.task.specs.Selections.{picks_live, named, numbered_as, on_unit, from_on, aca_on, aca_from_on, running_on, waiting_on, aca_waiting_on, running_as}
 use Rattle.task.specs.Scan.{scan}
 use Rattle.wire.specs.Unique.{One}
-use Rattle.task.specs.declared.Kind.{Kind}
+use Rattle.wire.specs.declared.codes.Kind.{Kind}
 use Rattle.task.specs.declared.Phase.{Phase}
 use Rattle.task.specs.declared.Sequel.{Sequel}
 use Rattle.task.specs.declared.Task.{Task}

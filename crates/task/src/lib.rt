@@ -9,19 +9,14 @@ pub mod map;
 pub mod scan;
 pub mod select;
 
+// How a task is queued.
+pub use wire::codes::Kind;
+
 // The records that a table has, and the bits of the map of live ones.
 pub const RECORDS: usize = 64;
 
-// How a task is queued. The first is the zero of a wiped record, here, in Phase and in Sequel.
-#[derive(Clone, Copy)]
-pub enum Kind {
-    Aca,
-    Head,
-    Ordered,
-    Simple,
-}
-
-// Unconfirmed: the device has finished, and the task waits to be confirmed.
+// Unconfirmed: the device has finished, and the task waits to be confirmed. The first is the zero of a wiped record,
+// here and in Sequel.
 #[derive(Clone, Copy)]
 pub enum Phase {
     Waiting,

@@ -6,8 +6,8 @@ use Rattle.wire.specs.Codes
 use Rattle.reply.specs.Calls.{placed}
 use Rattle.task.specs.Tasks.{no_task, accepted_as}
 use Rattle.task.specs.declared.Task.{Task}
-use Rattle.task.specs.declared.Kind.TheVariants as kind
-use Rattle.task.specs.declared.Kind.TheVariants.{Simple}
+use Rattle.wire.specs.declared.codes.Kind.TheVariants as kind
+use Rattle.wire.specs.declared.codes.Kind.TheVariants.{Simple}
 use Rattle.task.specs.declared.Sequel.TheVariants.{End, Confirm}
 use Rattle.table.specs.Tables.{no_path, no_unit, path_at, accepted, started, finished}
 use Rattle.table.specs.declared.Table.{Table}
