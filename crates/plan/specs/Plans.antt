@@ -13,8 +13,6 @@ use Rattle.reply.specs.declared.Reply.TheVariants as reply
 use Rattle.task.specs.Tasks.{is_unconfirmed, transferred_of}
 use Rattle.task.specs.Selections.{numbered_as}
 use Rattle.task.specs.declared.scan.Pick.{Pick}
-use Rattle.wire.specs.declared.codes.Kind.{Kind}
-use Rattle.wire.specs.declared.codes.Kind.TheVariants as kind
 use Rattle.task.specs.declared.Sequel.{Sequel}
 use Rattle.task.specs.declared.Sequel.TheVariants as sequel
 use Rattle.task.specs.declared.select.Place.TheVariants.{On}
