@@ -1,5 +1,7 @@
 -- The reply to ABORT TASK depends only on the message, the path list, the attached units and the sender's own live
 -- tasks. Assumes nothing.
+use Rattle.wire.specs.declared.codes.Refusal.{Refusal}
+use Rattle.std.specs.Prelude.{Result, Ok, Err}
 use Prim.Native.Nat.{ℕ, ◌≤◌}
 use mathlib.Core.Path.{◌≡◌, refl, sym, ap, ◌∙◌}
 use mathlib.Core.Bool.{Bool, true, false, cond}
@@ -76,11 +78,11 @@ same_taken {path = path} {t = t} {u = u} g h a tag =
 
 -- ---- the answer, by the sender's place and whether it has the task
 
-abbrev response : List ℕ → ℕ → Bool → Answer
-response m tag taken = answer.Reply (reply.Response tag (cond (reserved_set m) Codes.invalid_field (cond taken Codes.done Codes.task_not_found)))
+abbrev response : List ℕ → ℕ → Bool → Result Answer Refusal
+response m tag taken = Ok (answer.Reply (reply.Response tag (cond (reserved_set m) Codes.invalid_field (cond taken Codes.done Codes.task_not_found))))
 
-abbrev abort_answer : List ℕ → ℕ → ℕ → Bool → Answer
-abort_answer m tag p taken = cond (ltb p 8) (response m tag taken) (answer.Refused Codes.unknown_path)
+abbrev abort_answer : List ℕ → ℕ → ℕ → Bool → Result Answer Refusal
+abort_answer m tag p taken = cond (ltb p 8) (response m tag taken) (Err Codes.unknown_path)
 
 module _ (t : Table) (m : List ℕ) (path tag tag2 : ℕ) where
   abbrev abort : Request
@@ -89,7 +91,7 @@ module _ (t : Table) (m : List ℕ) (path tag tag2 : ℕ) where
   abbrev p : ℕ
   p = path_of t path
 
-  abbrev defined : Answer
+  abbrev defined : Result Answer Refusal
   defined = abort_answer m tag p (pick_of t (named p tag2)).found
 
   plan_answer : (plan_at t m p tag abort).answer ≡ response m tag (pick_of t (named p tag2)).found
@@ -100,12 +102,12 @@ module _ (t : Table) (m : List ℕ) (path tag tag2 : ℕ) where
   unfolding plan_for
   for_answer = by_place (ltb p 8) _ _ plan_answer
     where
-      by_place : (b : Bool) (x y : Plan) {a : Answer} → x.answer ≡ a → (cond b x y).answer ≡ cond b a y.answer
+      by_place : (b : Bool) (x y : Plan) {a : Result Answer Refusal} → x.answer ≡ a → (cond b x y).answer ≡ cond b a y.answer
       by_place true x y e = e
       by_place false x y e = refl
 
   -- in a sound table, with room for the reply
-  module _ (n : ℕ) (s : sound_of t ≡ true) (l : 64 ≤ n) (e : read_of m ≡ message.AbortTask tag path tag2) where
+  module _ (n : ℕ) (s : sound_of t ≡ true) (l : 64 ≤ n) (e : read_of m ≡ Ok (message.AbortTask tag path tag2)) where
     heard : message_of t m n ≡ carried t path (plan_for t m path tag abort)
     unfolding message_of heard_of answered_to
     heard = rw (s, le-ltb n 64 l, e)
@@ -114,7 +116,7 @@ module _ (t : Table) (m : List ℕ) (path tag tag2 : ℕ) where
     abort_answer_law = ap (λ (o : Outcome). o.answer) heard ∙ for_answer
 
     abort_to : (message_of t m n).to ≡ reply_path defined path
-    abort_to = ap (λ (o : Outcome). o.to) heard ∙ ap (λ (a : Answer). reply_path a path) for_answer
+    abort_to = ap (λ (o : Outcome). o.to) heard ∙ ap (λ (a : Result Answer Refusal). reply_path a path) for_answer
 
 pub abort_depends_only : AbortDependsOnly
 abort_depends_only t u m buf tag path tag2 g h l e a =
@@ -123,7 +125,7 @@ abort_depends_only t u m buf tag path tag2 g h l e a =
     let same : defined t m path tag tag2 ≡ defined u m path tag tag2 = rw (same_taken g h a tag2, same_place a path) in
     let answers = abort_answer_law t m path tag tag2 (length buf) sound-t l e ∙ same ∙ sym (abort_answer_law u m path tag tag2 (length buf) sound-u l e) in (
       answers,
-      abort_to t m path tag tag2 (length buf) sound-t l e ∙ ap (λ (x : Answer). reply_path x path) same
+      abort_to t m path tag tag2 (length buf) sound-t l e ∙ ap (λ (x : Result Answer Refusal). reply_path x path) same
           ∙ sym (abort_to u m path tag tag2 (length buf) sound-u l e),
-      ap (λ (x : Answer). replied x buf) answers,
+      ap (λ (x : Result Answer Refusal). replied x buf) answers,
     )

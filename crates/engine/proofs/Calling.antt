@@ -1,10 +1,8 @@
 -- The calls: a lemma for each way out. Assumes nothing.
---     gates      for `search`, a call that makes one test after another, under `unfolding` of its definition: what it refuses, and what comes after the last test
---     heard_all      what comes after the last test of `heard`;        chosen      what a start picks
---     plan_ways, step_ways, go_ways, may_ways, setup_ways      for `search`, the ways out of the functions so named
 --     unread, others_sought, none_sought, read_by, read_by_unit, carries_nothing, carries_out, carries_order, carries      a message: the plan for what was heard, the table after it, and the outcome
 --     starts, finishes, reset_refused, resets      the outcome, by what was asked of the table, the verdict and the step
 --     answers      the contract of a call with a reply buffer
+use Rattle.std.specs.Prelude.{Result, Ok, Err}
 use Prim.Native.Nat.{ℕ, ◌<◌, ◌≤◌}
 use mathlib.Core.Path.{◌≡◌, refl, sym, ap, ◌∙◌}
 use mathlib.Core.Bool.{Bool, true, false, cond, not, ◌&&◌, ◌||◌}
@@ -50,12 +48,11 @@ use Rattle.table.specs.declared.Unit as unit
 use Rattle.table.specs.declared.Table.{Table}
 use Rattle.rules.specs.Facts.{facts_of, lookup_of, unit_alone}
 use Rattle.rules.specs.declared.facts.Lookup.{Lookup}
-use Rattle.plan.specs.Plans.{asked_of, tag_asked, unit_asked, clears_set, goes_by_unit, reply_of, refusing, plan_of, paths_after, units_after}
+use Rattle.plan.specs.Plans.{asking, asked_of, asked_in, tag_asked, unit_asked, clears_set, goes_by_unit, reply_of, refusing, plan_of, paths_after, units_after}
 use Rattle.plan.specs.declared.Request.{Request}
 use Rattle.plan.specs.declared.Request.TheVariants.{Command, Manage, Confirm}
 use Rattle.rules.specs.declared.manage.Order.TheVariants as order
 use Rattle.plan.specs.declared.Asked.{Asked}
-use Rattle.plan.specs.declared.Asked.TheVariants.{By, Unread}
 use Rattle.plan.specs.declared.RecordChange.{RecordChange}
 use Rattle.plan.specs.declared.RecordChange.TheVariants as records
 use Rattle.plan.specs.declared.Plan.{Plan}
@@ -67,40 +64,12 @@ use Rattle.engine.specs.Steps.{step_of, chosen_by, judged_by}
 use Rattle.engine.specs.declared.Outcome.{Outcome}
 use Rattle.engine.specs.declared.calls.Verdict.{Verdict}
 
--- ---- one test after another
-
-module _ {A : Type 0} {b : Bool} {o : A} (x y : A) where
-  pub stops : b ≡ true → o ≡ x → o ≡ cond b x y
-  stops h e = rw h e
-
-  pub goes_on : b ≡ false → o ≡ y → o ≡ cond b x y
-  goes_on h e = rw h e
-
--- a test's outcome, as a branch gives it of the negated answer of a call
-pub not_answered : {b x : Bool} (r : Bool) → b ≡ x → not b ≡ r → not x ≡ r
-not_answered r e h = rw e at h
-
-pub ruleset gates = (stops, goes_on, not_answered, answered_true, answered_false, lt-ltb, le-ltb, eq-eqb, ne_eqb)
-
 -- ---- a message
 
-pub heard_all : (m : List ℕ) {g : Message} {a : Asked} → g ≡ read_of m → a ≡ asked_of g → a ≡ asked_of (read_of m)
-heard_all m e h = h ∙ rw e
-
--- the plan for what the path at p asks
-module _ (s : Lookup) (next p tag : ℕ) (m : List ℕ) (w : Request) {pl : Plan} where
-  pub unlisted : 8 ≤ p → pl ≡ refusing Codes.unknown_path → pl ≡ cond (ltb p 8) (plan_of s next p tag m w) (refusing Codes.unknown_path)
-  unlisted h k = rw (le-ltb p 8 h) k
-
-  pub listed : p < 8 → pl ≡ plan_of s next p tag m w → pl ≡ cond (ltb p 8) (plan_of s next p tag m w) (refusing Codes.unknown_path)
-  listed h k = rw (lt-ltb p 8 h) k
-
-pub ruleset plan_ways = (unlisted, listed)
-
 -- the plan for what was heard
-unfoldable pub plan_heard : Table → List ℕ → Asked → Plan
-plan_heard t m (Unread n) = refusing n
-plan_heard t m (By path tag w) = plan_for t m path tag w
+unfoldable pub plan_heard : Table → List ℕ → Result Asked Refusal → Plan
+plan_heard t m (Err n) = refusing n
+plan_heard t m (Ok a) = plan_for t m a.path a.tag a.request
 
 -- who else has a task on the unit is asked only where the plan goes by it
 others_alike : (t : Table) (m : List ℕ) (p tag next : ℕ) (w : Request) → goes_by_unit w ≡ false
@@ -132,18 +101,18 @@ unfolding lookup_of facts_of unit_alone
 unit_alike t m p tag next u o b f w y e k h g =
     tasks_unasked (unit_alone f o) (lookup_for t p tag w) next p tag m w y (e ∙ ap (is_attached t) k) (λ c. g ∙ rw (h, c, k))
 
-module _ (t : Table) (m : List ℕ) {a : Asked} {pl : Plan} where
-  pub unread : {n : Refusal} → a ≡ Unread n → pl ≡ refusing n → pl ≡ plan_heard t m a
+module _ (t : Table) (m : List ℕ) {a : Result Asked Refusal} {pl : Plan} where
+  pub unread : {n : Refusal} → a ≡ Err n → pl ≡ refusing n → pl ≡ plan_heard t m a
   unfolding plan_heard
   unread e h = rw e h
 
-  pub read_by : {path tag p n u : ℕ} {c : Bool} {w : Request} {s : Lookup} → a ≡ By path tag w → p ≡ path_of t path → u ≡ unit_asked w → c ≡ goes_by_unit w → c ≡ false → n ≡ tag_asked tag w
+  pub read_by : {path tag p n u : ℕ} {c : Bool} {w : Request} {s : Lookup} → a ≡ Ok (asking path tag w) → p ≡ path_of t path → u ≡ unit_asked w → c ≡ goes_by_unit w → c ≡ false → n ≡ tag_asked tag w
       → s ≡ lookup_of t p n u (cond false (others_on t u p) 0) → pl ≡ cond (ltb p 8) (plan_of s t.next p tag m w) (refusing Codes.unknown_path) → pl ≡ plan_heard t m a
   unfolding plan_heard plan_for plan_at
   read_by {tag = tag} {w = w} e p u g y n s h = h ∙ rw (e, s, n, u, others_alike t m _ tag t.next w (sym g ∙ y), p)
 
   -- what an order asks that goes by its unit alone
-  pub read_by_unit : {path tag p u o : ℕ} {b c f : Bool} {w : Request} {s : Lookup} → a ≡ By path tag w → p ≡ path_of t path → u ≡ unit_asked w → b ≡ clears_set w → o ≡ cond b (others_on t u p) 0
+  pub read_by_unit : {path tag p u o : ℕ} {b c f : Bool} {w : Request} {s : Lookup} → a ≡ Ok (asking path tag w) → p ≡ path_of t path → u ≡ unit_asked w → b ≡ clears_set w → o ≡ cond b (others_on t u p) 0
       → c ≡ goes_by_unit w → c ≡ true → f ≡ is_attached t u → s ≡ unit_alone f o → pl ≡ cond (ltb p 8) (plan_of s t.next p tag m w) (refusing Codes.unknown_path) → pl ≡ plan_heard t m a
   unfolding plan_heard plan_for plan_at
   read_by_unit {tag = tag} {w = w} e p u b o g y f s h = h ∙ rw (e, s, unit_alike t m _ tag t.next _ _ _ _ w (sym g ∙ y) f u b o, p)
@@ -156,25 +125,6 @@ steps_so t (records.Accept path tag lun kind sequel) = refl
 steps_so t (records.End s) = refl
 steps_so t (records.Complete s) = refl
 steps_so t (records.Restart place offset) = refl
-
--- the ways of `step_of`
-module _ {d : RecordChange} where
-  pub stays_so : d ≡ records.Nothing → step.Stay ≡ step_of d
-  stays_so e = rw e
-
-  pub accepts_so : {path tag lun : ℕ} {kind : Kind} {sequel : Sequel} → d ≡ records.Accept path tag lun kind sequel → step.Accept path tag lun kind sequel ≡ step_of d
-  accepts_so e = rw e
-
-  pub ends_so : {s : Selection} → d ≡ records.End s → step.End s ≡ step_of d
-  ends_so e = rw e
-
-  pub completes_so : {s : Selection} → d ≡ records.Complete s → step.End s ≡ step_of d
-  completes_so e = rw e
-
-  pub restarts_so : {place offset : ℕ} → d ≡ records.Restart place offset → step.Alter place (Restart offset) ≡ step_of d
-  restarts_so e = rw e
-
-pub ruleset step_ways = (stays_so, accepts_so, ends_so, completes_so, restarts_so)
 
 -- the plan carried out: paths and units, then the records
 module _ (t : Table) (pl : Plan) {paths : List path.Path} {units : List unit.Unit} (e : paths ≡ paths_after t.paths t.count pl.change) (h : units ≡ units_after t.units pl.change) where
@@ -192,7 +142,7 @@ module _ (t : Table) (pl : Plan) {paths : List path.Path} {units : List unit.Uni
   -- an order ends tasks: the units on which one of them runs are asked of that table, and then the records step
   module _ {s : Selection} (k : pl.records ≡ records.End s) where
     pub carries_order : {u : Table} → u ≡ stepped changed (step.End s) → u ≡ carried_out t pl
-    carries_order a = carries_out (ends_so k) a
+    carries_order a = carries_out (sym (ap step_of k)) a
 
     pub order_stops : {n : ℕ} → n ≡ running_among changed s → n ≡ stops_for t pl.records
     unfolding running_among
@@ -209,59 +159,24 @@ other_stops t (records.End s) k = absurd (k _ refl)
 other_stops t (records.Complete s) k = refl
 other_stops t (records.Restart place offset) k = refl
 
-carried_heard : (t : Table) (m : List ℕ) (a : Asked) → carried t (sender_of a) (plan_heard t m a) ≡ answered_to t m a
+carried_heard : (t : Table) (m : List ℕ) (a : Result Asked Refusal) → carried t (sender_of a) (plan_heard t m a) ≡ answered_to t m a
 unfolding plan_heard answered_to carried_out with_records
-carried_heard t m (Unread n) = rw (gone_none t.live)
-carried_heard t m (By path tag w) = refl
+carried_heard t m (Err n) = rw (gone_none t.live)
+carried_heard t m (Ok a) = refl
 
 -- ---- the reply
-
--- what a match tells of its last arm: the answer is not of the sort named before it, so it is no reply, or not an
--- acceptance
-pub no_reply : (a : Answer) → ((r : Reply) → a ≡ answer.Reply r → ⊥) → reply_of a ≡ none
-no_reply answer.Ready k = refl
-no_reply (answer.Accepted n) k = refl
-no_reply (answer.Reply r) k = absurd (k _ refl)
-no_reply (answer.Started offset arrival) k = refl
-no_reply (answer.Confirmed n) k = refl
-no_reply (answer.Restarted n) k = refl
-no_reply answer.Reset k = refl
-no_reply (answer.Refused n) k = refl
-
-pub not_accepted : (a : Answer) → ((n : ℕ) → a ≡ answer.Accepted n → ⊥) → is_accepted a ≡ false
-not_accepted answer.Ready k = refl
-not_accepted (answer.Accepted n) k = absurd (k _ refl)
-not_accepted (answer.Reply r) k = refl
-not_accepted (answer.Started offset arrival) k = refl
-not_accepted (answer.Confirmed n) k = refl
-not_accepted (answer.Restarted n) k = refl
-not_accepted answer.Reset k = refl
-not_accepted (answer.Refused n) k = refl
-
-pub sends : {a : Answer} (buf : List ℕ) {r : Reply} {left : List ℕ} → a ≡ answer.Reply r → left ≡ left_of r buf → left ≡ replied a buf
-unfolding replied
-sends buf e h = rw e h
 
 -- the contract of a call with a reply buffer
 pub answers : {d o : Outcome} {buf left : List ℕ} → o ≡ d → left ≡ replied o.answer buf → Answers d buf o left
 answers e h = record { outcome = e; buffer = h ∙ rw e }
 
-pub carries : (t : Table) (m : List ℕ) (room : ℕ) {b : Bool} {a : Asked} {pl : Plan} {u : Table} {g from to stops : ℕ} → b ≡ sound_of t → a ≡ heard_of b room m → pl ≡ plan_heard t m a
+pub carries : (t : Table) (m : List ℕ) (room : ℕ) {b : Bool} {a : Result Asked Refusal} {pl : Plan} {u : Table} {g from to stops : ℕ} → b ≡ sound_of t → a ≡ heard_of b room m → pl ≡ plan_heard t m a
     → u ≡ carried_out t pl → g ≡ gone t.live u.live → from ≡ sender_of a → to ≡ reply_path pl.answer from → stops ≡ stops_for t pl.records
     → record { table = u; answer = pl.answer; ended = g; to = to; stops = stops } ≡ message_of t m room
 unfolding message_of
 carries t m room s h p c g f d k = rw (g, c, d, k, f, p, h, s) (carried_heard t m (heard_of (sound_of t) room m))
 
 -- ---- start
-
-module _ (aca : Aca) (lun : ℕ) {b : Bool} (e : b ≡ has_aca aca) where
-  pub go_aca : {s : Selection} → b ≡ true → s ≡ aca_waiting_on lun → s ≡ may_go aca lun
-  go_aca h k = rw (← e, h) k
-
-  pub go_any : {s : Selection} → b ≡ false → s ≡ waiting_on lun → s ≡ may_go aca lun
-  go_any h k = rw (← e, h) k
-
-pub ruleset go_ways = (go_aca, go_any)
 
 pub chosen : (t : Table) (lun : ℕ) {u : unit.Unit} {s : Selection} {p : Pick} → u ≡ unit_at t lun → s ≡ may_go u.aca lun → p ≡ pick_of t s → p ≡ choice_on t lun
 unfolding choice_on
@@ -273,23 +188,6 @@ unfolding start_of start_verdict chosen_by holders_of stepped
 starts t lun s k h c d e g = rw (g, e, s, h, k, c, d)
 
 -- ---- finish
-
-pub bad_key : (y : Bool) {k n : ℕ} → n < k → false ≡ (leb k n && y)
-bad_key y h = rw (lt-leb _ _ h)
-
-pub good_key : (y : Bool) {r : Bool} {k n : ℕ} → k ≤ n → r ≡ y → r ≡ (leb k n && y)
-good_key y h e = rw (le-leb _ _ h) e
-
-pub this_status : (y : Bool) {k n : ℕ} → k ≡ n → true ≡ (eqb k n || y)
-this_status y h = rw (eq-eqb _ _ h)
-
-pub next_status : (y : Bool) {r : Bool} {k n : ℕ} → (k ≡ n → ⊥) → r ≡ y → r ≡ (eqb k n || y)
-next_status y h e = rw (ne_eqb _ _ h) e
-
-pub ruleset may_ways = (bad_key, good_key, this_status, next_status)
-
-pub sense_so : (x : StatusByte) (s : Sense) (tag at id : ℕ) {k : Sense} → k ≡ sent_sense x s → verdict (answer.Reply (reply.Status tag x k)) at id ≡ verdict (answer.Reply (reply.Status tag x (sent_sense x s))) at id
-sense_so x s tag at id e = rw e
 
 -- the record that a finish is about holds the running task of the arrival number, or is none
 module _ (t : Table) (arrival : ℕ) where
@@ -333,23 +231,12 @@ module _ (t : Table) (arrival : ℕ) where
 -- ---- total reset and setup
 
 module _ (t : Table) {b : Bool} (e : b ≡ sound_of t) where
-  pub reset_refused : {u : Table} {g : ℕ} → b ≡ false → u ≡ t → g ≡ gone t.live u.live → record { table = u; answer = answer.Refused Codes.not_sound; ended = g; to = 0; stops = 0 } ≡ total_reset_of t
+  pub reset_refused : {u : Table} {g : ℕ} → b ≡ false → u ≡ t → g ≡ gone t.live u.live → record { table = u; answer = Err Codes.not_sound; ended = g; to = 0; stops = 0 } ≡ total_reset_of t
   unfolding total_reset_of
   reset_refused h d k = rw (← e, h) (rw (k, d, gone_none t.live))
 
   pub resets : {u : Table} {l : List path.Path} {us : List unit.Unit} {g stops : ℕ} → b ≡ true → stops ≡ running_among t every_task → l ≡ reset_attention_in t.paths t.count true → us ≡ aca_cleared_in t.units Anywhere
       → u ≡ stepped (with_units (with_paths t l) us) (step.End every_task) → g ≡ gone t.live u.live → length t.tasks ≡ 64
-      → record { table = u; answer = answer.Reset; ended = g; to = 0; stops = stops } ≡ total_reset_of t
+      → record { table = u; answer = Ok answer.Reset; ended = g; to = 0; stops = stops } ≡ total_reset_of t
   unfolding total_reset_of stepped
   resets h r p c k g n = rw (g, k, p, c, r, reset_ends t n ((check_is_exact t).0 (sym e ∙ h)), ← e, h)
-
-module _ (ids : List ℕ) (attached first : ℕ) {u : Table} {b : Bool} (e : u ≡ setup_table ids attached first) (h : b ≡ bad_list ids) where
-  pub setup_refused : b ≡ true → refused u Codes.bad_paths ≡ setup_of ids attached first
-  unfolding setup_of
-  setup_refused k = rw (e, ← h, k)
-
-  pub setup_ready : b ≡ false → out u answer.Ready 0 ≡ setup_of ids attached first
-  unfolding setup_of
-  setup_ready k = rw (e, ← h, k)
-
-pub ruleset setup_ways = (setup_refused, setup_ready)

@@ -1,6 +1,6 @@
 -- The definitions that a call is computed by, for proofs by computation here and above: of messages and replies, of
 -- tasks and tables, of rules, orders and plans, and of the calls. Assumes nothing.
-use Rattle.wire.specs.Messages.{row_in, fields_of, read_of, command_reserved, confirm_reserved, reserved_set}
+use Rattle.wire.specs.Messages.{fields_of, read_of, command_reserved, confirm_reserved, reserved_set}
 use Rattle.wire.specs.Block.{cut_short, no_block, linked}
 use Rattle.reply.specs.Replies.{writable_of, bytes_of}
 use Rattle.reply.specs.Calls.{left_of}
@@ -20,7 +20,7 @@ use Rattle.plan.specs.Plans.{order_plan, confirm_plan}
 use Rattle.engine.specs.Calls.{heard_of, plan_at, plan_for, with_records, carried_out, answered_to, message_of, choice_on, start_verdict, start_of, finish_verdict, finish_of, setup_of, replied}
 
 unfoldable bytes : Unit {0}
-unfolding row_in fields_of read_of command_reserved confirm_reserved reserved_set cut_short no_block linked writable_of bytes_of left_of
+unfolding fields_of read_of command_reserved confirm_reserved reserved_set cut_short no_block linked writable_of bytes_of left_of
 bytes = tt
 
 unfoldable tables : Unit {0}

@@ -1,5 +1,7 @@
 -- What becomes of a task that waits to be confirmed: `confirmed` ends it, `restarted` has it wait again, and every
 -- other record stays. Assumes nothing.
+use Rattle.wire.specs.declared.codes.Refusal.{Refusal}
+use Rattle.std.specs.Prelude.{Result, Ok, Err}
 use Prim.Native.Nat.{ℕ, ◌<◌, ◌≤◌}
 use mathlib.Core.Path.{◌≡◌, refl, sym, ap, subst, ◌∙◌}
 use mathlib.Core.Bool.{Bool, true, false}
@@ -22,29 +24,28 @@ use Rattle.sound.specs.Promises.{Good}
 use Rattle.table.specs.declared.Table.{Table}
 use Rattle.table.proofs.Views.{OnlyTasks, live_at, spared, at_ended, ended_only, ended_next, altered_at_law, altered_other, altered_only, altered_next, pick_at}
 use Rattle.rules.specs.Facts.{lookup_of}
-use Rattle.plan.specs.Plans.{asked_of, is_awaited}
+use Rattle.plan.specs.Plans.{asking, asked_of, asked_in, is_awaited}
 use Rattle.plan.specs.declared.Request.TheVariants.{Confirm}
-use Rattle.plan.specs.declared.Asked.TheVariants.{By}
 use Rattle.plan.specs.declared.Plan.{Plan}
 use Rattle.plan.specs.declared.Answer.{Answer}
 use Rattle.plan.specs.declared.Answer.TheVariants as answer
 use Rattle.engine.specs.Calls.{plan_at, with_records, carried_out, message_of, replied}
 use Rattle.engine.specs.Promises.{Awaited, OnlyRecord, ConfirmsItsOwn}
 use Rattle.engine.specs.declared.Outcome.{Outcome}
-use Rattle.engine.proofs.Outcomes.{each_message, each_confirm, left_by}
+use Rattle.engine.proofs.Outcomes.{one_asked, each_message, each_confirm, left_by}
 
 module _ (t : Table) (path tag offset : ℕ) (complete : Bool) where
   -- what an answer to a confirmation means for the table after it
-  abbrev Meant : Answer → Table → Type 0
-  Meant answer.Ready u = Unit {0}
-  Meant (answer.Accepted n) u = Unit {0}
-  Meant (answer.Reply r) u = Unit {0}
-  Meant (answer.Started offset arrival) u = Unit {0}
-  Meant (answer.Confirmed n) u = (complete ≡ true) × (i : ℕ) × (a : Task) × Awaited t path tag n i a × (at u i ≡ none) × OnlyRecord i t u
-  Meant (answer.Restarted n) u =
+  abbrev Meant : Result Answer Refusal → Table → Type 0
+  Meant (Ok answer.Ready) u = Unit {0}
+  Meant (Ok (answer.Accepted n)) u = Unit {0}
+  Meant (Ok (answer.Reply r)) u = Unit {0}
+  Meant (Ok (answer.Started offset arrival)) u = Unit {0}
+  Meant (Ok (answer.Confirmed n)) u = (complete ≡ true) × (i : ℕ) × (a : Task) × Awaited t path tag n i a × (at u i ≡ none) × OnlyRecord i t u
+  Meant (Ok (answer.Restarted n)) u =
       (complete ≡ false) × (i : ℕ) × (a : Task) × Awaited t path tag n i a × (offset ≤ transferred_of a) × (at u i ≡ some (restarts offset a)) × OnlyRecord i t u
-  Meant answer.Reset u = Unit {0}
-  Meant (answer.Refused n) u = Unit {0}
+  Meant (Ok answer.Reset) u = Unit {0}
+  Meant (Err n) u = Unit {0}
 
   abbrev p : ℕ
   p = path_of t path
@@ -102,18 +103,15 @@ module _ (t : Table) (path tag offset : ℕ) (complete : Bool) where
           (c, own.at, own.task, w, l, goes_again w, only w _ (altered_only t own.at _) (altered_next t own.at _) (λ j _. altered_other t own.at _ j)))
 
       -- the outcome of a call that is asked for it
-      meant : asked_of (read_of m) ≡ By path tag (Confirm offset complete) → (n : ℕ) → Meant (message_of t m n).answer (message_of t m n).table
+      meant : asked_in (read_of m) ≡ Ok (asking path tag (Confirm offset complete)) → (n : ℕ) → Meant (message_of t m n).answer (message_of t m n).table
       meant e =
           each_message (λ (o : Outcome). Meant o.answer o.table) t (λ _. tt) m
           (λ path2 tag2 w f _.
-          let same : By path2 tag2 w ≡ By path tag (Confirm offset complete) = sym f ∙ e in
-          let x : path2 ≡ path = cc in
-          let y : tag2 ≡ tag = cc in
-          let z : w ≡ Confirm offset complete = cc in
-          rw (x, y, z) plan_meant)
+          let same = one_asked path tag path2 tag2 (Confirm offset complete) w f e in
+          rw (same.0, same.1, same.2) plan_meant)
 
-      told : {o : Outcome} {a : Answer} (n : ℕ) → asked_of (read_of m) ≡ By path tag (Confirm offset complete) → o ≡ message_of t m n → o.answer ≡ a → Meant a o.table
-      told {o = o} n e x h = subst (λ (a : Answer). Meant a o.table) h (subst (λ (q : Outcome). Meant q.answer q.table) (sym x) (meant e n))
+      told : {o : Outcome} {a : Result Answer Refusal} (n : ℕ) → asked_in (read_of m) ≡ Ok (asking path tag (Confirm offset complete)) → o ≡ message_of t m n → o.answer ≡ a → Meant a o.table
+      told {o = o} n e x h = subst (λ (a : Result Answer Refusal). Meant a o.table) h (subst (λ (q : Outcome). Meant q.answer q.table) (sym x) (meant e n))
 
 pub confirms_its_own : ConfirmsItsOwn
 unfolding replied

@@ -1,4 +1,6 @@
 -- M-103: what an answer to a command does to the ACA of the units, by the rule that decides. Assumes nothing.
+use Rattle.wire.specs.declared.codes.Refusal.{Refusal}
+use Rattle.std.specs.Prelude.{Result, Ok}
 use Prim.Native.Nat.{ℕ, ◌<◌, ◌^◌}
 use mathlib.Core.Path.{◌≡◌, refl, sym, ap, subst, ◌∙◌}
 use mathlib.Core.Bool.{true, false, ◌&&◌}
@@ -35,14 +37,13 @@ use Rattle.rules.specs.declared.change.QueueChange.TheVariants.{Leaves, Holds}
 use Rattle.rules.specs.declared.command.Ruling.{Ruling}
 use Rattle.rules.specs.declared.command.Ruling.TheVariants.{Refuse, Respond, Report, Invalid, Accept}
 use Rattle.rules.proofs.Promises.{holds_as_asked, eight_takes_attention, attached_is_seven_to_ten, owners_alone}
-use Rattle.plan.specs.Plans.{asked_of, ruled, sender_after}
+use Rattle.plan.specs.Plans.{asking, asked_of, asked_in, ruled, sender_after}
 use Rattle.plan.specs.declared.Request.TheVariants.{Command}
-use Rattle.plan.specs.declared.Asked.TheVariants.{By}
 use Rattle.plan.specs.declared.Answer.{Answer}
 use Rattle.engine.specs.Calls.{plan_at, with_parts, with_records, carried_out, message_of}
 use Rattle.engine.specs.Holding.{rule_for, says02, AcaAfter, HoldsQueue}
 use Rattle.engine.specs.declared.Outcome.{Outcome}
-use Rattle.engine.proofs.Outcomes.{each_message}
+use Rattle.engine.proofs.Outcomes.{one_asked, each_message}
 use Rattle.engine.proofs.Keeps.{held_attached}
 
 -- ---- the attention that is taken
@@ -61,7 +62,7 @@ module _ (t : Table) (g : Good t) (p : ℕ) (l : p < 8) where
 
 module _ (t : Table) (g : Good t) (p tag lun : ℕ) (flags : Flags) (r : Rule) where
   -- an answer that is no STATUS 02h, and leaves the units
-  quiet : {u : Table} {a : Answer} → u.units ≡ t.units → says02 a ≡ false → AcaAfter t u a r p lun
+  quiet : {u : Table} {a : Result Answer Refusal} → u.units ≡ t.units → says02 a ≡ false → AcaAfter t u a r p lun
   quiet same other = record {
     sender = λ h. absurd (never (both (seven_to_ten r) _ h).1 other);
     its_own = λ h _ _. absurd (never (both (seven_to_ten r) _ h).1 other);
@@ -153,16 +154,13 @@ module _ (t : Table) (g : Good t) (b : t.attached < 2 ^ 8) (m : List ℕ) (path 
   abbrev After : Outcome → Type 0
   After o = AcaAfter t o.table o.answer decider p lun
 
-  message_aca : asked_of (read_of m) ≡ By path tag (Command lun flags) → (n : ℕ) → After (message_of t m n)
+  message_aca : asked_in (read_of m) ≡ Ok (asking path tag (Command lun flags)) → (n : ℕ) → After (message_of t m n)
   unfolding plan_at lookup_of
   message_aca e =
       each_message After t (λ _. quiet t g p tag lun flags decider refl refl) m
       (λ path2 tag2 w h l.
-      let same : By path2 tag2 w ≡ By path tag (Command lun flags) = sym h ∙ e in
-      let x : path2 ≡ path = cc in
-      let y : tag2 ≡ tag = cc in
-      let z : w ≡ Command lun flags = cc in
-      rw (x, y, z) (ruled_aca t g p tag lun flags decider (rw x at l) decider.gives known))
+      let same = one_asked path tag path2 tag2 (Command lun flags) w h e in
+      rw (same.0, same.1, same.2) (ruled_aca t g p tag lun flags decider (rw same.0 at l) decider.gives known))
 
 pub holds_queue_law : HoldsQueue
 holds_queue_law t m buf o left path tag lun flags c =

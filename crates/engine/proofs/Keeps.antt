@@ -9,7 +9,6 @@ use borrow.Author.Tests.{not-false, ltb-true, eq-eqb, eqb-true}
 use Rattle.wire.specs.Codes
 use Rattle.wire.specs.Messages.{reserved_set}
 use Rattle.wire.specs.Block.{cut_short, no_block}
-use Rattle.wire.specs.declared.codes.Queue.{Queue}
 use Rattle.wire.specs.declared.message.Flags.{Flags}
 use Rattle.task.specs.Tasks.{is_aca}
 use Rattle.task.specs.Selections.{picks, every_task, named, on_unit, aca_on, aca_from_on, running_on, waiting_on, aca_waiting_on}
@@ -42,7 +41,7 @@ use Rattle.rules.specs.declared.manage.Order.TheVariants.{AbortTask, AbortTaskSe
 use Rattle.rules.specs.Promises.{holds_queue}
 use Rattle.rules.proofs.Promises.{holds_as_asked, attached_is_seven_to_ten}
 use Rattle.rules.proofs.Entries.{every_rule, applies_at, passed}
-use Rattle.plan.specs.Plans.{kind_of, ruled, order_plan, sender_after}
+use Rattle.plan.specs.Plans.{ruled, order_plan, sender_after}
 use Rattle.plan.specs.declared.Request.{Request}
 use Rattle.plan.specs.declared.Request.TheVariants.{Command, Manage, Confirm}
 use Rattle.plan.specs.declared.Plan.{Plan}
@@ -61,15 +60,6 @@ owned_by_law Clear p e = let z : ◌≡◌ {A = ℕ} 0 1 = cc in absurd (omega a
 owned_by_law (Owned q) p e = ap Owned (eqb-true q p e)
 
 -- ---- a command that is accepted may come
-
-aca_asked : (q : Queue) → is_aca (kind_of q) ≡ true → eqb q.0 (Codes.queue_aca).0 ≡ true
-aca_asked q = cases (eqb q.0 (Codes.queue_aca).0) (eqb q.0 (Codes.queue_head).0) (eqb q.0 (Codes.queue_ordered).0)
-  where
-    cases : (b c d : Bool) → is_aca (cond b kind.Aca (cond c kind.Head (cond d kind.Ordered kind.Simple))) ≡ true → b ≡ true
-    cases true c d e = refl
-    cases false true d e = e
-    cases false false true e = e
-    cases false false false e = e
 
 -- rule 7, for kind ACA
 owner_alone : (f : Facts) (g : Flags) → asks_aca g ≡ true → kept_out_by_aca f g ≡ false → aca_kind_without_aca f g ≡ false → (f.owned ≡ true) × (f.busy ≡ false)
@@ -102,11 +92,11 @@ module _ (t : Table) (p tag lun : ℕ) (flags : Flags) (m : List ℕ) where
     unfolding command_rules room_rules field_rules unit_rules block_rules
     accept_is_whole = (none_applied 3, none_applied 12)
 
-    may_come : Shaped t → p < t.count → MayCome t p tag lun (kind_of flags.queue)
+    may_come : Shaped t → p < t.count → MayCome t p tag lun flags.queue
     unfolding command_rules room_rules field_rules unit_rules block_rules facts_of
     may_come h l =
-        let by-owner : is_aca (kind_of flags.queue) ≡ true → (owned_by (unit_at t lun).aca p ≡ true) × ((pick_of t (aca_on lun)).found ≡ false) =
-        λ a. owner_alone facts flags (aca_asked flags.queue a) (none_applied 8) (none_applied 9) in
+        let by-owner : is_aca flags.queue ≡ true → (owned_by (unit_at t lun).aca p ≡ true) × ((pick_of t (aca_on lun)).found ≡ false) =
+        λ a. owner_alone facts flags a (none_applied 8) (none_applied 9) in
         record {
           listed = l;
           attached = not-false _ (none_applied 7);
@@ -164,7 +154,7 @@ module _ (t : Table) (g : Good t) (p : ℕ) (l : p < t.count) where
   sender_keeps ClearMark = mark_keeps t p false g l
   sender_keeps ClearMarkAndAttention = attention_gone_keeps (with_paths t (marked_in t.paths p false)) p (mark_keeps t p false g l) l
 
-  ruling_keeps : (next tag lun : ℕ) (flags : Flags) (r : Ruling) → (r ≡ Accept → MayCome t p tag lun (kind_of flags.queue)) → (holds_queue r ≡ true → is_attached t lun ≡ true)
+  ruling_keeps : (next tag lun : ℕ) (flags : Flags) (r : Ruling) → (r ≡ Accept → MayCome t p tag lun flags.queue) → (holds_queue r ≡ true → is_attached t lun ≡ true)
       → Good (carried_out t (ruled next p tag lun flags r))
   unfolding carried_out with_records
   ruling_keeps next tag lun flags (Refuse n) c h = g

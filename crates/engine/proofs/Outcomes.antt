@@ -1,4 +1,5 @@
 -- What holds at each way out of a call's definition holds of its outcome. Assumes nothing.
+use Rattle.std.specs.Prelude.{Result, Ok, Err}
 use Prim.Native.Nat.{ℕ, ◌<◌, ◌≤◌}
 use mathlib.Core.Path.{◌≡◌, refl, sym, ap, ◌∙◌}
 use mathlib.Core.Bool.{Bool, true, false, not}
@@ -22,39 +23,45 @@ use Rattle.sound.specs.Sound.{sound_of}
 use Rattle.table.specs.declared.Table.{Table}
 use Rattle.table.proofs.Views.{altered_none, finished_none}
 use Rattle.rules.specs.declared.change.Change.TheVariants as change
-use Rattle.plan.specs.Plans.{asked_of, planned, refusing, is_awaited, confirm_plan}
+use Rattle.plan.specs.Plans.{asking, asked_of, asked_in, planned, refusing, is_awaited, confirm_plan}
 use Rattle.plan.specs.declared.Request.{Request}
 use Rattle.plan.specs.declared.Asked.{Asked}
-use Rattle.plan.specs.declared.Asked.TheVariants.{By, Unread}
 use Rattle.plan.specs.declared.RecordChange.TheVariants as records
 use Rattle.plan.specs.declared.Plan.{Plan}
 use Rattle.plan.specs.declared.Answer.{Answer}
 use Rattle.plan.specs.declared.Answer.TheVariants as answer
+use Rattle.wire.proofs.Results.{same_Ok}
 use Rattle.engine.specs.Calls.{out, ending, refused, heard_of, plan_at, plan_for, with_records, carried_out, carried, answered_to, message_of, rejected, settled, closed, choice_on, start_verdict, start_of, may_finish, sent_sense, running_task, failed, finish_verdict, finish_of, total_reset_of, replied, Answers}
 use Rattle.engine.specs.declared.Outcome.{Outcome}
 use Rattle.engine.specs.declared.calls.Verdict.{Verdict}
+
+-- what is heard is one: path, tag and request
+pub one_asked : {r : Result Asked Refusal} (path tag path2 tag2 : ℕ) (w w2 : Request) → r ≡ Ok (asking path2 tag2 w2) → r ≡ Ok (asking path tag w) → (path2 ≡ path) × (tag2 ≡ tag) × (w2 ≡ w)
+one_asked path tag path2 tag2 w w2 f e =
+    let same : asking path2 tag2 w2 ≡ asking path tag w = same_Ok _ _ (sym f ∙ e) in
+    (ap (λ (a : Asked). a.path) same, ap (λ (a : Asked). a.tag) same, ap (λ (a : Asked). a.request) same)
 
 module _ (P : Outcome → Type 0) (t : Table) (stops : (n : Refusal) → P (refused t n)) where
   -- a message: refused, or the plan for what a listed path asks is carried out
   module _ (m : List ℕ) where
     abbrev pub Carried : Type 0
-    Carried = (path tag : ℕ) (w : Request) → asked_of (read_of m) ≡ By path tag w → path_of t path < 8 → P (carried t path (plan_at t m (path_of t path) tag w))
+    Carried = (path tag : ℕ) (w : Request) → asked_in (read_of m) ≡ Ok (asking path tag w) → path_of t path < 8 → P (carried t path (plan_at t m (path_of t path) tag w))
 
-    abbrev Answered : Asked → Type 0
+    abbrev Answered : Result Asked Refusal → Type 0
     Answered a = P (answered_to t m a)
 
-    asked : Carried → (a : Asked) → asked_of (read_of m) ≡ a → Answered a
+    asked : Carried → (a : Result Asked Refusal) → asked_in (read_of m) ≡ a → Answered a
     unfolding answered_to plan_for carried_out with_records
-    asked goes (Unread n) e = stops n
-    asked goes (By path tag w) e =
-        cond_ind (λ (pl : Plan). P (carried t path pl)) (ltb (path_of t path) 8) (λ l. goes path tag w e (ltb-true _ 8 l)) (λ _. rw (gone_none t.live) (stops Codes.unknown_path))
+    asked goes (Err n) e = stops n
+    asked goes (Ok a) e =
+        cond_ind (λ (pl : Plan). P (carried t a.path pl)) (ltb (path_of t a.path) 8) (λ l. goes a.path a.tag a.request e (ltb-true _ 8 l)) (λ _. rw (gone_none t.live) (stops Codes.unknown_path))
 
     -- where the reply buffer has room
     pub each_heard : (n : ℕ) → (Codes.reply_room ≤ n → Carried) → P (message_of t m n)
     unfolding message_of heard_of answered_to
     each_heard n goes =
         cond_ind Answered (not (sound_of t)) (λ _. stops _)
-        (λ _. cond_ind Answered (ltb n Codes.reply_room) (λ _. stops _) (λ l. asked (goes (ltb-false n _ l)) (asked_of (read_of m)) refl))
+        (λ _. cond_ind Answered (ltb n Codes.reply_room) (λ _. stops _) (λ l. asked (goes (ltb-false n _ l)) (asked_in (read_of m)) refl))
 
     pub each_message : Carried → (n : ℕ) → P (message_of t m n)
     each_message goes n = each_heard n (λ _. goes)
@@ -62,7 +69,7 @@ module _ (P : Outcome → Type 0) (t : Table) (stops : (n : Refusal) → P (refu
   -- a start: refused, or the task that goes next runs
   pub each_start : (unit : ℕ)
       → (is_attached t unit ≡ true → (pick_of t (running_on unit)).found ≡ false → (choice_on t unit).found ≡ true
-      → P (out (started t (choice_on t unit).at) (answer.Started (offset_of (choice_on t unit).task) (choice_on t unit).task.arrival) 0))
+      → P (out (started t (choice_on t unit).at) (Ok (answer.Started (offset_of (choice_on t unit).task) (choice_on t unit).task.arrival)) 0))
       → P (start_of t unit)
   unfolding start_of start_verdict
   each_start unit goes =
@@ -77,7 +84,7 @@ module _ (P : Outcome → Type 0) (t : Table) (stops : (n : Refusal) → P (refu
   module _ (arrival : ℕ) (status : StatusByte) (s : Sense) (transferred n : ℕ) where
     abbrev pub Ended : Type 0
     Ended = P (ending t (finished t (pick_of t (running_as arrival)).at (failed status) transferred)
-        (answer.Reply (reply.Status (running_task t arrival).tag status (sent_sense status s))) (path_at t (running_task t arrival).path).id 0)
+        (Ok (answer.Reply (reply.Status (running_task t arrival).tag status (sent_sense status s)))) (path_at t (running_task t arrival).path).id 0)
 
     -- where the reply buffer has room, and the device's status and sense key may be sent
     pub each_sent : (Codes.reply_room ≤ n → may_finish status s ≡ true → (pick_of t (running_as arrival)).found ≡ true → Ended)
@@ -94,17 +101,17 @@ module _ (P : Outcome → Type 0) (t : Table) (stops : (n : Refusal) → P (refu
     pub each_finish : ((pick_of t (running_as arrival)).found ≡ true → Ended) → P (finish_of t arrival status s transferred n)
     each_finish goes = each_sent (λ _ _. goes)
 
-  pub each_reset : P (ending t (reset_of t) answer.Reset 0 (running_among t every_task)) → P (total_reset_of t)
+  pub each_reset : P (ending t (reset_of t) (Ok answer.Reset) 0 (running_among t every_task)) → P (total_reset_of t)
   unfolding total_reset_of
   each_reset goes = cond_ind P (not (sound_of t)) (λ _. stops _) (λ _. goes)
 
 -- a confirmation: FFh, or 15, or the task that waits to be confirmed ends, or it waits again at an offset within the
 -- bytes transferred
 module _ (P : Plan → Type 0) (own : Pick) (p tag : ℕ) (m : List ℕ) (offset : ℕ) (complete : Bool) where
-  pub each_confirm : P (planned (answer.Reply (reply.Response tag Codes.invalid_field)) change.Nothing records.Nothing) → P (refusing Codes.nothing_to_confirm)
-      → (is_awaited own ≡ true → complete ≡ true → P (planned (answer.Confirmed own.task.arrival) change.Nothing (records.Complete (numbered_as own.task.arrival p tag))))
+  pub each_confirm : P (planned (Ok (answer.Reply (reply.Response tag Codes.invalid_field))) change.Nothing records.Nothing) → P (refusing Codes.nothing_to_confirm)
+      → (is_awaited own ≡ true → complete ≡ true → P (planned (Ok (answer.Confirmed own.task.arrival)) change.Nothing (records.Complete (numbered_as own.task.arrival p tag))))
       → (is_awaited own ≡ true → complete ≡ false → offset ≤ transferred_of own.task
-      → P (planned (answer.Restarted own.task.arrival) change.Nothing (records.Restart own.at offset)))
+      → P (planned (Ok (answer.Restarted own.task.arrival)) change.Nothing (records.Restart own.at offset)))
       → P (confirm_plan own p tag m offset complete)
   unfolding confirm_plan
   each_confirm bad none ends again =
@@ -114,5 +121,5 @@ module _ (P : Plan → Type 0) (own : Pick) (p tag : ℕ) (m : List ℕ) (offset
       (λ c. cond_ind P (ltb (transferred_of own.task) offset) (λ _. bad) (λ l. again (not-false _ w) c (ltb-false _ offset l)))))
 
 -- the reply buffer as it is left, by the answer
-pub left_by : {defined o : Outcome} (buf : List ℕ) {left : List ℕ} {a : Answer} → Answers defined buf o left → o.answer ≡ a → left ≡ replied a buf
-left_by buf x e = x.buffer ∙ ap (λ (a : Answer). replied a buf) (sym (ap (λ (q : Outcome). q.answer) x.outcome) ∙ e)
+pub left_by : {defined o : Outcome} (buf : List ℕ) {left : List ℕ} {a : Result Answer Refusal} → Answers defined buf o left → o.answer ≡ a → left ≡ replied a buf
+left_by buf x e = x.buffer ∙ ap (λ (a : Result Answer Refusal). replied a buf) (sym (ap (λ (q : Outcome). q.answer) x.outcome) ∙ e)

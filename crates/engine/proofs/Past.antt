@@ -1,6 +1,8 @@
 -- Bytes past the specified length are not read: they change neither the outcome of a message nor the command block
 -- handed over. Assumes nothing.
 use Prim.Native.Nat.{ℕ}
+use Rattle.std.specs.Prelude.{Result, Ok, Err}
+use Rattle.wire.specs.declared.codes.Refusal.{Refusal}
 use mathlib.Core.Path.{◌≡◌, refl, sym, ◌∙◌}
 use mathlib.Core.Bool.{false, cond, not}
 use mathlib.Core.List.{List, [], ◌∷◌, ◌++◌}
@@ -12,7 +14,7 @@ use Rattle.wire.specs.Block.{cut_short}
 use Rattle.wire.specs.Promises.{s3p_code, Whole}
 use Rattle.wire.specs.declared.message.Flags.{Flags}
 use Rattle.wire.specs.declared.message.Message.{Message}
-use Rattle.wire.specs.declared.message.Message.TheVariants.{Command, ConfirmStatus, AbortTask, AbortTaskSet, ClearTaskSet, TargetReset, ClearAca, UnitReset, Refused}
+use Rattle.wire.specs.declared.message.Message.TheVariants.{Command, ConfirmStatus, AbortTask, AbortTaskSet, ClearTaskSet, TargetReset, ClearAca, UnitReset}
 use Rattle.wire.proofs.Promises.{read_by_code}
 use Rattle.wire.proofs.Past.{past_is_not_read as past}
 use Rattle.wire.proofs.Table.{cond_ind}
@@ -24,7 +26,7 @@ use Rattle.rules.specs.Rules.{passes_attention, reset_to_report, cleared_to_repo
 use Rattle.rules.specs.Management.{order_code}
 use Rattle.rules.specs.declared.facts.Facts.{Facts}
 use Rattle.rules.specs.declared.command.Ruling.{Ruling}
-use Rattle.plan.specs.Plans.{asked_of, order_plan, confirm_plan}
+use Rattle.plan.specs.Plans.{asking, asked_of, asked_in, order_plan, confirm_plan}
 use Rattle.plan.specs.declared.Asked.{Asked}
 use Rattle.engine.specs.Calls.{heard_of, plan_at, plan_for, answered_to, message_of, handed_over}
 use Rattle.engine.specs.Promises.{PastIsNotRead}
@@ -51,11 +53,11 @@ decided_same m rest f flags w s =
     (rw (past.cut_short_past m rest w ∙ sym w, s, past.first_byte m rest w, past.no_length m rest w, past.is_linked m rest w))
 
 module _ (t : Table) (m rest : List ℕ) where
-  abbrev Same : Asked → Type 0
+  abbrev Same : Result Asked Refusal → Type 0
   Same a = answered_to t (m ++ rest) a ≡ answered_to t m a
 
   -- an order and a confirmation look at the reserved fields alone
-  answered_same : (r : Message) → (s3p_code r ≡ Codes.scsi_command → cut_short m ≡ false) → reserved_set (m ++ rest) ≡ reserved_set m → Same (asked_of r)
+  answered_same : (r : Message) → (s3p_code r ≡ Codes.scsi_command → cut_short m ≡ false) → reserved_set (m ++ rest) ≡ reserved_set m → Same (Ok (asked_of r))
   unfolding answered_to plan_for plan_at order_plan order_code confirm_plan s3p_code
   answered_same (Command tag path lun flags) w s = rw (decided_same m rest _ flags (w refl) s)
   answered_same (ConfirmStatus tag path newPath offset complete) w s = rw s
@@ -65,16 +67,18 @@ module _ (t : Table) (m rest : List ℕ) where
   answered_same (TargetReset tag path) w s = rw s
   answered_same (ClearAca tag path lun) w s = rw s
   answered_same (UnitReset tag path lun) w s = rw s
-  answered_same (Refused n) w s = refl
 
   -- what is read as a command bears its code, so that its block is whole
   message_same : (n : ℕ) → Whole m → message_of t (m ++ rest) n ≡ message_of t m n
   unfolding message_of heard_of answered_to
   message_same n h =
-      let w : s3p_code (read_of m) ≡ Codes.scsi_command → cut_short m ≡ false = λ e. h.block (sym (read_by_code m _ refl h.fields) ∙ e) in
       rw (past.read m rest (h.fields _))
       (cond_ind Same (not (sound_of t)) (λ _. refl)
-      (λ _. cond_ind Same (ltb n Codes.reply_room) (λ _. refl) (λ _. answered_same (read_of m) w (past.reserved_set_past m rest h))))
+      (λ _. cond_ind Same (ltb n Codes.reply_room) (λ _. refl) (λ _. read_same (read_of m) refl)))
+    where
+      read_same : (x : Result Message Refusal) → read_of m ≡ x → Same (asked_in x)
+      read_same (Ok r) e = answered_same r (λ k. h.block (sym (read_by_code m r e) ∙ k)) (past.reserved_set_past m rest h)
+      read_same (Err k) e = refl
 
 pub past_is_not_read : PastIsNotRead
 unfolding handed_over

@@ -2,6 +2,7 @@
 -- that replies are written, Keeps.antt that tables stay sound, Confirming.antt what becomes of a task that waits to be
 -- confirmed, Abort.antt what ABORT TASK depends on, Past.antt that bytes past the specified length are not read. Assumes
 -- nothing.
+use Rattle.std.specs.Prelude.{Result, Ok, Err}
 use Prim.Native.Nat.{ℕ, ◌+◌, ◌≤◌}
 use mathlib.Core.Path.{◌≡◌, refl, sym, ap, ◌∙◌}
 use mathlib.Core.Bool.{Bool, true, false, cond, ◌||◌}
@@ -47,24 +48,24 @@ use Rattle.engine.proofs.Keeps.{accept_is_whole}
 -- ---- refusals
 
 -- an answer by its sort
-abbrev pub sort_of : Answer → ℕ
-sort_of answer.Ready = 0
-sort_of (answer.Accepted n) = 1
-sort_of (answer.Reply r) = 2
-sort_of (answer.Started offset arrival) = 3
-sort_of (answer.Confirmed n) = 4
-sort_of (answer.Restarted n) = 5
-sort_of answer.Reset = 6
-sort_of (answer.Refused n) = 7
+abbrev pub sort_of : Result Answer Refusal → ℕ
+sort_of (Ok answer.Ready) = 0
+sort_of (Ok (answer.Accepted n)) = 1
+sort_of (Ok (answer.Reply r)) = 2
+sort_of (Ok (answer.Started offset arrival)) = 3
+sort_of (Ok (answer.Confirmed n)) = 4
+sort_of (Ok (answer.Restarted n)) = 5
+sort_of (Ok answer.Reset) = 6
+sort_of (Err n) = 7
 
-pub unlike : {A : Type 0} {a b : Answer} → eqb (sort_of a) (sort_of b) ≡ false → a ≡ b → A
+pub unlike : {A : Type 0} {a b : Result Answer Refusal} → eqb (sort_of a) (sort_of b) ≡ false → a ≡ b → A
 unlike {a = a} {b = b} h e = absurd (eqb-false (sort_of a) (sort_of b) h (ap sort_of e))
 
 -- an answer is a refusal only where the table is t, and nothing has to stop
-abbrev Stays : Table → Answer → Table → ℕ → Type 0
-Stays t a u stops = (n : Refusal) → a ≡ answer.Refused n → (u ≡ t) × (stops ≡ 0)
+abbrev Stays : Table → Result Answer Refusal → Table → ℕ → Type 0
+Stays t a u stops = (n : Refusal) → a ≡ Err n → (u ≡ t) × (stops ≡ 0)
 
-no_refusal : {t u : Table} {a : Answer} {stops : ℕ} → eqb (sort_of a) 7 ≡ false → Stays t a u stops
+no_refusal : {t u : Table} {a : Result Answer Refusal} {stops : ℕ} → eqb (sort_of a) 7 ≡ false → Stays t a u stops
 no_refusal h n = unlike h
 
 abbrev Kept : Table → Outcome → Type 0
@@ -84,7 +85,7 @@ ruling_kept t next p tag lun flags Accept = no_refusal refl
 plan_kept : (t : Table) (s : Lookup) (next p tag : ℕ) (m : List ℕ) (w : Request) → PlanKept t (plan_of s next p tag m w)
 unfolding carried_out with_records
 plan_kept t s next p tag m (Command lun flags) = ruling_kept t next p tag lun flags (deciding s.facts flags m).gives
-plan_kept t s next p tag m (Manage o) = no_refusal (ap (λ (a : Answer). eqb (sort_of a) 7) (order_answer s.facts s.others p tag m o))
+plan_kept t s next p tag m (Manage o) = no_refusal (ap (λ (a : Result Answer Refusal). eqb (sort_of a) 7) (order_answer s.facts s.others p tag m o))
 plan_kept t s next p tag m (Confirm offset complete) =
     each_confirm (PlanKept t) s.own p tag m offset complete (no_refusal refl) (λ _ _. (refl, refl)) (λ _ _. no_refusal refl) (λ _ _ _. no_refusal refl)
 
@@ -93,7 +94,7 @@ as_defined : {t : Table} {defined o : Outcome} → Kept t defined → o ≡ defi
 as_defined kept e = rw e kept
 
 with_reply : {t : Table} {defined : Outcome} (buf : List ℕ) {o : Outcome} {left : List ℕ} (n : Refusal)
-    → Kept t defined → Answers defined buf o left → o.answer ≡ answer.Refused n → (o.table ≡ t) × (left ≡ buf)
+    → Kept t defined → Answers defined buf o left → o.answer ≡ Err n → (o.table ≡ t) × (left ≡ buf)
 unfolding replied
 with_reply buf n kept x e = ((as_defined kept x.outcome n e).0, left_by buf x e)
 
@@ -126,12 +127,12 @@ pub setup_refusals : SetupRefusals
 unfolding setup_of setup_table
 setup_refusals ids attached first o n e h = (as_defined (zero (bad_list ids) _) e n h).0
   where
-    zero : (b : Bool) (u : Table) → Stays zero_table (cond b (answer.Refused Codes.bad_paths) answer.Ready) (cond b zero_table u) 0
+    zero : (b : Bool) (u : Table) → Stays zero_table (cond b (Err Codes.bad_paths) (Ok answer.Ready)) (cond b zero_table u) 0
     zero true u = λ _ _. (refl, refl)
     zero false u = no_refusal refl
 
 -- what left the live map of a table that stays is nothing
-refused_ends : {t : Table} {defined o : Outcome} (n : Refusal) → Kept t defined → defined.ended ≡ gone t.live defined.table.live → o ≡ defined → o.answer ≡ answer.Refused n → EndsNothing o
+refused_ends : {t : Table} {defined o : Outcome} (n : Refusal) → Kept t defined → defined.ended ≡ gone t.live defined.table.live → o ≡ defined → o.answer ≡ Err n → EndsNothing o
 refused_ends {t} {defined} n kept left e h =
     let k = kept n (sym (ap (λ (q : Outcome). q.answer) e) ∙ h) in
     rw e (record { ended = left ∙ ap (λ (u : Table). gone t.live u.live) k.0 ∙ gone_none t.live; stops = k.1 })
@@ -147,12 +148,12 @@ nothing_ended = record {
   setup = λ ids attached first o e. rw e none_ended;
 }
   where
-    none_ended : {t : Table} {a : Answer} {to : ℕ} → EndsNothing (out t a to)
+    none_ended : {t : Table} {a : Result Answer Refusal} {to : ℕ} → EndsNothing (out t a to)
     none_ended = record { ended = refl; stops = refl }
 
 -- ---- an accepted command
 
-accepts_only : (next p tag lun arrival : ℕ) (flags : Flags) (r : Ruling) → (ruled next p tag lun flags r).answer ≡ answer.Accepted arrival → r ≡ Accept
+accepts_only : (next p tag lun arrival : ℕ) (flags : Flags) (r : Ruling) → (ruled next p tag lun flags r).answer ≡ Ok (answer.Accepted arrival) → r ≡ Accept
 accepts_only next p tag lun arrival flags (Refuse n) e = unlike refl e
 accepts_only next p tag lun arrival flags (Respond code sender) e = unlike refl e
 accepts_only next p tag lun arrival flags (Report status sense sender queue) e = unlike refl e
@@ -162,16 +163,16 @@ accepts_only next p tag lun arrival flags Accept e = refl
 abbrev WholeBlock : List ℕ → Type 0
 WholeBlock m = (cut_short m ≡ false) × (no_block m ≡ false)
 
-message_whole : (t : Table) (m : List ℕ) (n arrival : ℕ) → (message_of t m n).answer ≡ answer.Accepted arrival → WholeBlock m
+message_whole : (t : Table) (m : List ℕ) (n arrival : ℕ) → (message_of t m n).answer ≡ Ok (answer.Accepted arrival) → WholeBlock m
 unfolding plan_at lookup_of
 message_whole t m n arrival =
-    each_message (λ (o : Outcome). o.answer ≡ answer.Accepted arrival → WholeBlock m) t (λ _. unlike refl) m (λ path tag w _ _. asked (path_of t path) tag w) n
+    each_message (λ (o : Outcome). o.answer ≡ Ok (answer.Accepted arrival) → WholeBlock m) t (λ _. unlike refl) m (λ path tag w _ _. asked (path_of t path) tag w) n
   where
-    asked : (p tag : ℕ) (w : Request) → (plan_at t m p tag w).answer ≡ answer.Accepted arrival → WholeBlock m
+    asked : (p tag : ℕ) (w : Request) → (plan_at t m p tag w).answer ≡ Ok (answer.Accepted arrival) → WholeBlock m
     asked p tag (Command lun flags) e = accept_is_whole t p tag lun flags m (accepts_only t.next p tag lun arrival flags _ e)
     asked p tag (Manage o) e = unlike refl (sym (order_answer _ _ p tag m o) ∙ e)
     asked p tag (Confirm offset complete) e =
-        each_confirm (λ (pl : Plan). pl.answer ≡ answer.Accepted arrival → WholeBlock m) (pick_of t (named p tag)) p tag m offset complete (unlike refl) (unlike refl)
+        each_confirm (λ (pl : Plan). pl.answer ≡ Ok (answer.Accepted arrival) → WholeBlock m) (pick_of t (named p tag)) p tag m offset complete (unlike refl) (unlike refl)
         (λ _ _. unlike refl) (λ _ _ _. unlike refl) e
 
 long_enough : (m : List ℕ) → cut_short m ≡ false → 16 + block_length m ≤ length m
@@ -200,7 +201,7 @@ accepted_is_whole t m buf o left arrival x e =
 pub starts_next : StartsNext
 unfolding choice_on pick_of
 starts_next t unit offset arrival o e h =
-    rw e (each_start (λ (o : Outcome). o.answer ≡ answer.Started offset arrival → Goes t unit offset arrival o.table) t (λ _. unlike refl) unit
+    rw e (each_start (λ (o : Outcome). o.answer ≡ Ok (answer.Started offset arrival) → Goes t unit offset arrival o.table) t (λ _. unlike refl) unit
     (λ _ _ found x. record {
       pick = choice_on t unit;
       found = found;

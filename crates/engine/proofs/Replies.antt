@@ -1,5 +1,6 @@
 -- Where a call's answer is a reply, it is one that can be written, and it stands at the front of the buffer: rule by
 -- rule, order by order, and for what a device may send. Assumes nothing.
+use Rattle.std.specs.Prelude.{Result, Ok}
 use Prim.Native.Nat.{ℕ, ◌≤◌}
 use mathlib.Core.Path.{◌≡◌, refl, sym, ap, ◌∙◌}
 use mathlib.Core.Bool.{Bool, true, false, cond, not, ◌&&◌, ◌||◌}
@@ -50,7 +51,7 @@ abbrev fits : Option Reply → Bool
 fits none = true
 fits (some r) = writable_of r
 
-abbrev Fits : Answer → Type 0
+abbrev Fits : Result Answer Refusal → Type 0
 Fits a = fits (reply_of a) ≡ true
 
 -- a command: a test of every rule's answer, and of acceptance
@@ -82,12 +83,12 @@ module _ (tag : ℕ) where
 plan_fits : (s : Lookup) (next p tag : ℕ) (m : List ℕ) (w : Request) → Fits (plan_of s next p tag m w).answer
 unfolding writable_of
 plan_fits s next p tag m (Command lun flags) = ruling_fits s.facts next p tag m lun flags
-plan_fits s next p tag m (Manage o) = ap (λ (a : Answer). fits (reply_of a)) (order_answer s.facts s.others p tag m o) ∙ code_fits tag s.facts m o
+plan_fits s next p tag m (Manage o) = ap (λ (a : Result Answer Refusal). fits (reply_of a)) (order_answer s.facts s.others p tag m o) ∙ code_fits tag s.facts m o
 plan_fits s next p tag m (Confirm offset complete) =
     each_confirm (λ (pl : Plan). Fits pl.answer) s.own p tag m offset complete refl refl (λ _ _. refl) (λ _ _ _. refl)
 
 -- a finish: the four statuses that a device may send, and its sense key
-sent_fits : (tag : ℕ) (status : StatusByte) (s : Sense) → may_finish status s ≡ true → Fits (answer.Reply (reply.Status tag status (sent_sense status s)))
+sent_fits : (tag : ℕ) (status : StatusByte) (s : Sense) → may_finish status s ≡ true → Fits (Ok (answer.Reply (reply.Status tag status (sent_sense status s))))
 unfolding writable_of
 sent_fits tag status s =
     let is : StatusByte → Bool = λ x. eqb status.0 x.0 in
@@ -103,7 +104,7 @@ sent_fits tag status s =
 
 -- ---- what fits is written
 
-written : (a : Answer) (buf : List ℕ) (r : Reply) → Codes.reply_room ≤ length buf → Fits a → reply_of a ≡ some r → ReplyWritten r buf (replied a buf)
+written : (a : Result Answer Refusal) (buf : List ℕ) (r : Reply) → Codes.reply_room ≤ length buf → Fits a → reply_of a ≡ some r → ReplyWritten r buf (replied a buf)
 unfolding left_of replied
 written a buf r l f e =
     let w : writable_of r ≡ true = sym (ap fits e) ∙ f in

@@ -1,6 +1,6 @@
 -- What each call answers, what table it hands back, what it ended, and what it leaves in the reply buffer: the refusals
 -- in their order, then the rest.
-use Rattle.std.specs.Prelude.{ℕ, ◌≡◌, Bool, true, false, cond, not, ◌&&◌, ◌||◌, List, [], length, eqb, ltb, leb}
+use Rattle.std.specs.Prelude.{ℕ, Result, Ok, Err, ◌≡◌, Bool, true, false, cond, not, ◌&&◌, ◌||◌, List, [], length, eqb, ltb, leb}
 use Rattle.std.proofs.Math.Option.{Option, none, some}
 use Rattle.wire.specs.Codes
 use Rattle.wire.specs.Messages.{read_of}
@@ -26,10 +26,9 @@ use Rattle.table.specs.declared.Aca.{Aca}
 use Rattle.rules.specs.Facts.{lookup_of}
 use Rattle.rules.specs.declared.facts.Lookup.{Lookup}
 use Rattle.rules.specs.declared.change.Change.{Change}
-use Rattle.plan.specs.Plans.{asked_of, tag_asked, unit_asked, reply_of, refusing, plan_of, paths_after, units_after}
+use Rattle.plan.specs.Plans.{asked_in, tag_asked, unit_asked, reply_of, refusing, plan_of, paths_after, units_after}
 use Rattle.plan.specs.declared.Request.{Request}
 use Rattle.plan.specs.declared.Asked.{Asked}
-use Rattle.plan.specs.declared.Asked.TheVariants.{By, Unread}
 use Rattle.plan.specs.declared.RecordChange.{RecordChange}
 use Rattle.plan.specs.declared.RecordChange.TheVariants as records
 use Rattle.plan.specs.declared.Plan.{Plan}
@@ -42,27 +41,27 @@ use Rattle.engine.specs.declared.calls.Verdict.{Verdict}
 -- the map of the units whose device has to stop
 
 -- nothing was ended
-abbrev pub out : Table → Answer → ℕ → Outcome
+abbrev pub out : Table → Result Answer Refusal → ℕ → Outcome
 out t a to = record { table = t; answer = a; ended = 0; to = to; stops = 0 }
 
 -- t is the table that was handed in, u the next one: what was live and is no more was ended
-abbrev pub ending : Table → Table → Answer → ℕ → ℕ → Outcome
+abbrev pub ending : Table → Table → Result Answer Refusal → ℕ → ℕ → Outcome
 ending t u a to stops = record { table = u; answer = a; ended = gone t.live u.live; to = to; stops = stops }
 
 abbrev pub refused : Table → Refusal → Outcome
-refused t n = out t (answer.Refused n) 0
+refused t n = out t (Err n) 0
 
 -- ---- a message: 13, 5, then 1, 2, 1 by the reader, 3, then by the rules and orders
 
 -- what is heard, with a reply buffer of so many bytes
-unfoldable pub heard_of : Bool → ℕ → List ℕ → Asked
+unfoldable pub heard_of : Bool → ℕ → List ℕ → Result Asked Refusal
 heard_of sound room m =
-    cond (not sound) (Unread Codes.not_sound) (cond (ltb room Codes.reply_room) (Unread Codes.small_buffer) (asked_of (read_of m)))
+    cond (not sound) (Err Codes.not_sound) (cond (ltb room Codes.reply_room) (Err Codes.small_buffer) (asked_in (read_of m)))
 
 -- the id of the path that is heard; 0 where nothing is
-abbrev pub sender_of : Asked → ℕ
-sender_of (Unread n) = 0
-sender_of (By path tag w) = path
+abbrev pub sender_of : Result Asked Refusal → ℕ
+sender_of (Err n) = 0
+sender_of (Ok a) = a.path
 
 -- what is looked up in the table for what the path at p asks, and the plan for it
 abbrev pub lookup_for : Table → ℕ → ℕ → Request → Lookup
@@ -102,7 +101,7 @@ abbrev pub path_for : ℕ → Option Reply → ℕ
 path_for path none = 0
 path_for path (some r) = path
 
-abbrev pub reply_path : Answer → ℕ → ℕ
+abbrev pub reply_path : Result Answer Refusal → ℕ → ℕ
 reply_path a path = path_for path (reply_of a)
 
 -- the units that have to stop: those on which a task runs that an order ends. What a confirmation ends does not run
@@ -116,9 +115,9 @@ stops_for t (records.Restart place offset) = 0
 abbrev pub carried : Table → ℕ → Plan → Outcome
 carried t path pl = ending t (carried_out t pl) pl.answer (reply_path pl.answer path) (stops_for t pl.records)
 
-unfoldable pub answered_to : Table → List ℕ → Asked → Outcome
-answered_to t m (Unread n) = refused t n
-answered_to t m (By path tag w) = carried t path (plan_for t m path tag w)
+unfoldable pub answered_to : Table → List ℕ → Result Asked Refusal → Outcome
+answered_to t m (Err n) = refused t n
+answered_to t m (Ok a) = carried t a.path (plan_for t m a.path a.tag a.request)
 
 -- n is the length of the reply buffer
 unfoldable pub message_of : Table → List ℕ → ℕ → Outcome
@@ -128,11 +127,11 @@ message_of t m n = answered_to t m (heard_of (sound_of t) n m)
 
 -- the answer, the record that it is about, and the id of the path that the reply goes to; 64 is no record, and no
 -- change of it changes the table
-abbrev pub verdict : Answer → ℕ → ℕ → Verdict
+abbrev pub verdict : Result Answer Refusal → ℕ → ℕ → Verdict
 verdict a place to = record { answer = a; place = place; to = to }
 
 abbrev pub rejected : Refusal → Verdict
-rejected n = verdict (answer.Refused n) 64 0
+rejected n = verdict (Err n) 64 0
 
 -- a start ends nothing; what a finish ends has finished, and nothing has to stop
 abbrev pub settled : Verdict → Table → Outcome
@@ -151,7 +150,7 @@ choice_on t unit = pick_of t (may_go (unit_at t unit).aca unit)
 -- the arrival number is answered, and the offset to start at: the one named by the last restart, 0 for a task never
 -- restarted
 abbrev pub goes : Pick → Verdict
-goes p = verdict (answer.Started (offset_of p.task) p.task.arrival) p.at 0
+goes p = verdict (Ok (answer.Started (offset_of p.task) p.task.arrival)) p.at 0
 
 unfoldable pub start_verdict : Table → ℕ → Verdict
 start_verdict t unit =
@@ -188,7 +187,7 @@ finish_verdict t arrival status s n =
     (cond (ltb n Codes.reply_room) (rejected Codes.small_buffer)
     (cond (not (may_finish status s)) (rejected Codes.bad_status)
     (cond (not (pick_of t (running_as arrival)).found) (rejected Codes.not_running)
-    (verdict (answer.Reply (reply.Status (running_task t arrival).tag status (sent_sense status s))) (pick_of t (running_as arrival)).at (path_at t (running_task t arrival).path).id))))
+    (verdict (Ok (answer.Reply (reply.Status (running_task t arrival).tag status (sent_sense status s)))) (pick_of t (running_as arrival)).at (path_at t (running_task t arrival).path).id))))
 
 -- the task ends, or with CONFIRM waits to be confirmed, with the bytes transferred
 unfoldable pub finish_of : Table → ℕ → StatusByte → Sense → ℕ → ℕ → Outcome
@@ -197,11 +196,11 @@ finish_of t arrival status s transferred n =
 
 -- total reset: 13 only. Every unit on which a task runs has to stop
 unfoldable pub total_reset_of : Table → Outcome
-total_reset_of t = cond (not (sound_of t)) (refused t Codes.not_sound) (ending t (reset_of t) answer.Reset 0 (running_among t every_task))
+total_reset_of t = cond (not (sound_of t)) (refused t Codes.not_sound) (ending t (reset_of t) (Ok answer.Reset) 0 (running_among t every_task))
 
 -- setup: 11, with the all-zero table
 unfoldable pub setup_of : List ℕ → ℕ → ℕ → Outcome
-setup_of ids attached first = out (setup_table ids attached first) (cond (bad_list ids) (answer.Refused Codes.bad_paths) answer.Ready) 0
+setup_of ids attached first = out (setup_table ids attached first) (cond (bad_list ids) (Err Codes.bad_paths) (Ok answer.Ready)) 0
 
 -- ---- the reply buffer
 
@@ -210,7 +209,7 @@ abbrev pub left_with : List ℕ → Option Reply → List ℕ
 left_with buf none = buf
 left_with buf (some r) = left_of r buf
 
-unfoldable pub replied : Answer → List ℕ → List ℕ
+unfoldable pub replied : Result Answer Refusal → List ℕ → List ℕ
 replied a buf = left_with buf (reply_of a)
 
 -- the contract of a call with a reply buffer: the outcome o is the one defined, and the buffer is left as its answer
@@ -221,17 +220,17 @@ pub record Answers (defined : Outcome) (buf : List ℕ) (o : Outcome) (left : Li
 
 -- ---- the command block handed over: the part of the message with an accepted command, an empty part with any other answer
 
-abbrev pub is_accepted : Answer → Bool
-is_accepted answer.Ready = false
-is_accepted (answer.Accepted n) = true
-is_accepted (answer.Reply r) = false
-is_accepted (answer.Started offset arrival) = false
-is_accepted (answer.Confirmed n) = false
-is_accepted (answer.Restarted n) = false
-is_accepted answer.Reset = false
-is_accepted (answer.Refused n) = false
+abbrev pub is_accepted : Result Answer Refusal → Bool
+is_accepted (Ok answer.Ready) = false
+is_accepted (Ok (answer.Accepted n)) = true
+is_accepted (Ok (answer.Reply r)) = false
+is_accepted (Ok (answer.Started offset arrival)) = false
+is_accepted (Ok (answer.Confirmed n)) = false
+is_accepted (Ok (answer.Restarted n)) = false
+is_accepted (Ok answer.Reset) = false
+is_accepted (Err n) = false
 
-unfoldable pub handed_over : List ℕ → Answer → List ℕ
+unfoldable pub handed_over : List ℕ → Result Answer Refusal → List ℕ
 handed_over m a = cond (is_accepted a) (block_of m) []
 
 -- ---- the contracts of the calls: o is what a call hands back, left the reply buffer as it is left
@@ -252,5 +251,5 @@ abbrev pub TotalResetContract : Table → Outcome → Type 0
 TotalResetContract t o = o ≡ total_reset_of t
 
 -- the part that is handed over with an answer
-abbrev pub CommandBlockContract : List ℕ → Answer → List ℕ → Type 0
+abbrev pub CommandBlockContract : List ℕ → Result Answer Refusal → List ℕ → Type 0
 CommandBlockContract m a part = part ≡ handed_over m a

@@ -1,6 +1,6 @@
 -- M-103, a refused command holds the queue as well: which answers to a command give its unit an ACA, whose that is, and
 -- that no other answer to a command changes an ACA. Proved in proofs/Holding.antt.
-use Rattle.std.specs.Prelude.{ℕ, ◌<◌, ◌^◌, ◌≡◌, Bool, true, false, ◌&&◌, List, eqb}
+use Rattle.std.specs.Prelude.{Result, Ok, Err, ℕ, ◌<◌, ◌^◌, ◌≡◌, Bool, true, false, ◌&&◌, List, eqb}
 use Rattle.std.proofs.Math.Option.{Option, none, some}
 use Rattle.wire.specs.Codes
 use Rattle.wire.specs.Messages.{read_of}
@@ -16,9 +16,9 @@ use Rattle.rules.specs.First.{Rule}
 use Rattle.rules.specs.Facts.{facts_of}
 use Rattle.rules.specs.Rules.{deciding}
 use Rattle.rules.specs.Promises.{seven_to_ten}
-use Rattle.plan.specs.Plans.{asked_of, reply_of}
+use Rattle.wire.specs.declared.codes.Refusal.{Refusal}
+use Rattle.plan.specs.Plans.{asking, asked_of, asked_in, reply_of}
 use Rattle.plan.specs.declared.Request.TheVariants.{Command}
-use Rattle.plan.specs.declared.Asked.TheVariants.{By}
 use Rattle.plan.specs.declared.Answer.{Answer}
 use Rattle.engine.specs.Calls.{MessageContract}
 use Rattle.engine.specs.declared.Outcome.{Outcome}
@@ -28,7 +28,7 @@ pub record CommandCall (t : Table) (m buf : List ℕ) (o : Outcome) (left : List
   pub good : Good t
   pub byte : t.attached < 2 ^ 8
   pub call : MessageContract t m buf o left
-  pub asks : asked_of (read_of m) ≡ By path tag (Command lun flags)
+  pub asks : asked_in (read_of m) ≡ Ok (asking path tag (Command lun flags))
 
 -- the rule that decides it
 abbrev pub rule_for : Table → List ℕ → ℕ → ℕ → ℕ → Flags → Rule
@@ -41,16 +41,16 @@ is_check (some (reply.Response t code)) = false
 is_check (some (reply.Status t status sense)) = eqb status.0 (Codes.check_condition).0
 is_check (some (reply.Invalid t)) = false
 
-abbrev pub says02 : Answer → Bool
+abbrev pub says02 : Result Answer Refusal → Bool
 says02 a = is_check (reply_of a)
 
 -- .. by rules 7 to 10
-abbrev pub held_by : Rule → Answer → Bool
+abbrev pub held_by : Rule → Result Answer Refusal → Bool
 held_by r a = seven_to_ten r && says02 a
 
 -- what the command does to the ACA of the units, by the rule r that decides it: t is the table handed in, u the next one,
 -- a the answer, p the place of the sender
-pub record AcaAfter (t u : Table) (a : Answer) (r : Rule) (p lun : ℕ) : Type 0 where
+pub record AcaAfter (t u : Table) (a : Result Answer Refusal) (r : Rule) (p lun : ℕ) : Type 0 where
   -- after a STATUS 02h by rules 7 to 10 the unit has ACA, and it is the sender's
   pub sender : held_by r a ≡ true → aca_at u.units lun ≡ Owned p
   -- where the unit had one before, that was the sender's too: nothing changes hands

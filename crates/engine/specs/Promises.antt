@@ -1,6 +1,6 @@
 -- What is promised of the calls beside their contracts. Each is proved in proofs/Promises.antt or a file that its
 -- first lines name; Unique.antt has that outcomes are one.
-use Rattle.std.specs.Prelude.{ℕ, ◌<◌, ◌≤◌, ◌^◌, ◌≡◌, Bool, true, false, List, ◌++◌, length}
+use Rattle.std.specs.Prelude.{Result, Ok, Err, ℕ, ◌<◌, ◌≤◌, ◌^◌, ◌≡◌, Bool, true, false, List, ◌++◌, length}
 use Rattle.std.proofs.Math.Option.{none, some}
 use Rattle.wire.specs.Codes.{reply_room}
 use Rattle.wire.specs.Messages.{read_of}
@@ -22,9 +22,8 @@ use Rattle.table.specs.Setup.{bad_list}
 use Rattle.table.specs.View.{at}
 use Rattle.sound.specs.Promises.{Good}
 use Rattle.table.specs.declared.Table.{Table}
-use Rattle.plan.specs.Plans.{asked_of, reply_of}
+use Rattle.plan.specs.Plans.{asking, asked_of, asked_in, reply_of}
 use Rattle.plan.specs.declared.Request.TheVariants.{Confirm}
-use Rattle.plan.specs.declared.Asked.TheVariants.{By}
 use Rattle.plan.specs.declared.Answer.{Answer}
 use Rattle.plan.specs.declared.Answer.TheVariants as answer
 use Rattle.engine.specs.Calls.{message_of, start_of, finish_of, total_reset_of, setup_of, may_go, replied, handed_over}
@@ -35,20 +34,20 @@ use Rattle.engine.specs.declared.Outcome.{Outcome}
 
 abbrev pub MessageRefusals : Type 0
 MessageRefusals = (t : Table) (m buf : List ℕ) (o : Outcome) (left : List ℕ) (n : Refusal)
-    → MessageContract t m buf o left → o.answer ≡ answer.Refused n → (o.table ≡ t) × (left ≡ buf)
+    → MessageContract t m buf o left → o.answer ≡ Err n → (o.table ≡ t) × (left ≡ buf)
 
 abbrev pub FinishRefusals : Type 0
 FinishRefusals = (t : Table) (arrival : ℕ) (status : StatusByte) (s : Sense) (transferred : ℕ) (buf : List ℕ) (o : Outcome) (left : List ℕ) (n : Refusal)
-    → FinishContract t arrival status s transferred buf o left → o.answer ≡ answer.Refused n → (o.table ≡ t) × (left ≡ buf)
+    → FinishContract t arrival status s transferred buf o left → o.answer ≡ Err n → (o.table ≡ t) × (left ≡ buf)
 
 abbrev pub StartRefusals : Type 0
-StartRefusals = (t : Table) (unit : ℕ) (o : Outcome) (n : Refusal) → StartContract t unit o → o.answer ≡ answer.Refused n → o.table ≡ t
+StartRefusals = (t : Table) (unit : ℕ) (o : Outcome) (n : Refusal) → StartContract t unit o → o.answer ≡ Err n → o.table ≡ t
 
 abbrev pub ResetRefusals : Type 0
-ResetRefusals = (t : Table) (o : Outcome) (n : Refusal) → TotalResetContract t o → o.answer ≡ answer.Refused n → o.table ≡ t
+ResetRefusals = (t : Table) (o : Outcome) (n : Refusal) → TotalResetContract t o → o.answer ≡ Err n → o.table ≡ t
 
 abbrev pub SetupRefusals : Type 0
-SetupRefusals = (ids : List ℕ) (attached first : ℕ) (o : Outcome) (n : Refusal) → SetupContract ids attached first o → o.answer ≡ answer.Refused n → o.table ≡ zero_table
+SetupRefusals = (ids : List ℕ) (attached first : ℕ) (o : Outcome) (n : Refusal) → SetupContract ids attached first o → o.answer ≡ Err n → o.table ≡ zero_table
 
 -- ---- a refusal ends nothing, on any table; nor does a start or a setup, however it is answered
 
@@ -57,11 +56,11 @@ pub record EndsNothing (o : Outcome) : Type 0 where
   pub stops : o.stops ≡ 0
 
 pub record NothingEnded : Type 0 where
-  pub message : (t : Table) (m buf : List ℕ) (o : Outcome) (left : List ℕ) (n : Refusal) → MessageContract t m buf o left → o.answer ≡ answer.Refused n → EndsNothing o
+  pub message : (t : Table) (m buf : List ℕ) (o : Outcome) (left : List ℕ) (n : Refusal) → MessageContract t m buf o left → o.answer ≡ Err n → EndsNothing o
   pub start : (t : Table) (unit : ℕ) (o : Outcome) → StartContract t unit o → EndsNothing o
   pub finish : (t : Table) (arrival : ℕ) (status : StatusByte) (s : Sense) (transferred : ℕ) (buf : List ℕ) (o : Outcome) (left : List ℕ) (n : Refusal)
-      → FinishContract t arrival status s transferred buf o left → o.answer ≡ answer.Refused n → EndsNothing o
-  pub total_reset : (t : Table) (o : Outcome) (n : Refusal) → TotalResetContract t o → o.answer ≡ answer.Refused n → EndsNothing o
+      → FinishContract t arrival status s transferred buf o left → o.answer ≡ Err n → EndsNothing o
+  pub total_reset : (t : Table) (o : Outcome) (n : Refusal) → TotalResetContract t o → o.answer ≡ Err n → EndsNothing o
   pub setup : (ids : List ℕ) (attached first : ℕ) (o : Outcome) → SetupContract ids attached first o → EndsNothing o
 
 -- ---- where the answer is a reply, that reply is written
@@ -86,7 +85,7 @@ pub record RepliesAreWritten : Type 0 where
 -- the block of an accepted command is whole and has a length, and so many bytes are handed over
 abbrev pub AcceptedIsWhole : Type 0
 AcceptedIsWhole = (t : Table) (m buf : List ℕ) (o : Outcome) (left : List ℕ) (arrival : ℕ)
-    → MessageContract t m buf o left → o.answer ≡ answer.Accepted arrival
+    → MessageContract t m buf o left → o.answer ≡ Ok (answer.Accepted arrival)
     → (cut_short m ≡ false) × (no_block m ≡ false) × (length (handed_over m o.answer) ≡ block_length m)
 
 -- the record of one of the tasks that may go, and of these the one that goes next: it runs in the table after, and
@@ -100,7 +99,7 @@ pub record Goes (t : Table) (unit offset arrival : ℕ) (after : Table) : Type 0
   pub runs : after ≡ started t pick.at
 
 abbrev pub StartsNext : Type 0
-StartsNext = (t : Table) (unit offset arrival : ℕ) (o : Outcome) → StartContract t unit o → o.answer ≡ answer.Started offset arrival → Goes t unit offset arrival o.table
+StartsNext = (t : Table) (unit offset arrival : ℕ) (o : Outcome) → StartContract t unit o → o.answer ≡ Ok (answer.Started offset arrival) → Goes t unit offset arrival o.table
 
 -- ---- what becomes of a task that waits to be confirmed
 
@@ -127,10 +126,10 @@ pub record OnlyRecord (i : ℕ) (t u : Table) : Type 0 where
 -- offset within the bytes transferred; all else stays. No reply is sent
 pub record ConfirmsItsOwn : Type 0 where
   pub confirmed : (t : Table) (m buf : List ℕ) (o : Outcome) (left : List ℕ) (path tag offset arrival : ℕ) (complete : Bool)
-      → Good t → MessageContract t m buf o left → asked_of (read_of m) ≡ By path tag (Confirm offset complete) → o.answer ≡ answer.Confirmed arrival
+      → Good t → MessageContract t m buf o left → asked_in (read_of m) ≡ Ok (asking path tag (Confirm offset complete)) → o.answer ≡ Ok (answer.Confirmed arrival)
       → (complete ≡ true) × (i : ℕ) × (a : Task) × Awaited t path tag arrival i a × (at o.table i ≡ none) × OnlyRecord i t o.table × (left ≡ buf)
   pub restarted : (t : Table) (m buf : List ℕ) (o : Outcome) (left : List ℕ) (path tag offset arrival : ℕ) (complete : Bool)
-      → Good t → MessageContract t m buf o left → asked_of (read_of m) ≡ By path tag (Confirm offset complete) → o.answer ≡ answer.Restarted arrival
+      → Good t → MessageContract t m buf o left → asked_in (read_of m) ≡ Ok (asking path tag (Confirm offset complete)) → o.answer ≡ Ok (answer.Restarted arrival)
       → (complete ≡ false) × (i : ℕ) × (a : Task) × Awaited t path tag arrival i a × (offset ≤ transferred_of a) × (at o.table i ≡ some (restarts offset a))
       × OnlyRecord i t o.table × (left ≡ buf)
 
@@ -140,7 +139,7 @@ pub record ConfirmsItsOwn : Type 0 where
 -- same block is handed over
 pub record PastIsNotRead : Type 0 where
   pub outcome : (t : Table) (m rest : List ℕ) (n : ℕ) → Whole m → message_of t (m ++ rest) n ≡ message_of t m n
-  pub command_block : (m rest : List ℕ) (a : Answer) → cut_short m ≡ false → handed_over (m ++ rest) a ≡ handed_over m a
+  pub command_block : (m rest : List ℕ) (a : Result Answer Refusal) → cut_short m ≡ false → handed_over (m ++ rest) a ≡ handed_over m a
 
 -- ---- every call keeps a table sound, and setup's is
 
@@ -174,6 +173,6 @@ pub record Agree (path : ℕ) (t u : Table) : Type 0 where
   pub back : (a : Task) → a.path ≡ path_of t path → Live u a → Live t a
 
 abbrev pub AbortDependsOnly : Type 0
-AbortDependsOnly = (t u : Table) (m buf : List ℕ) (tag path tag2 : ℕ) → Good t → Good u → 64 ≤ length buf → read_of m ≡ AbortTask tag path tag2 → Agree path t u
+AbortDependsOnly = (t u : Table) (m buf : List ℕ) (tag path tag2 : ℕ) → Good t → Good u → 64 ≤ length buf → read_of m ≡ Ok (AbortTask tag path tag2) → Agree path t u
     → ((message_of t m (length buf)).answer ≡ (message_of u m (length buf)).answer) × ((message_of t m (length buf)).to ≡ (message_of u m (length buf)).to)
     × (replied (message_of t m (length buf)).answer buf ≡ replied (message_of u m (length buf)).answer buf)

@@ -1,6 +1,6 @@
 -- How the calls come to what Calls.antt says, each with one table: the step that carries a plan out, and the verdicts
 -- by what was asked of the table. That each is what Calls.antt says is proved with the calls.
-use Rattle.std.specs.Prelude.{ℕ, Bool, cond, not, ltb}
+use Rattle.std.specs.Prelude.{ℕ, Ok, Bool, cond, not, ltb}
 use Rattle.wire.specs.Codes
 use Rattle.wire.specs.declared.codes.StatusByte.{StatusByte}
 use Rattle.wire.specs.declared.codes.Sense.{Sense}
@@ -36,4 +36,4 @@ judged_by sound n status s p id =
     cond (not sound) (rejected Codes.not_sound)
     (cond (ltb n Codes.reply_room) (rejected Codes.small_buffer)
     (cond (not (may_finish status s)) (rejected Codes.bad_status)
-    (cond (not p.found) (rejected Codes.not_running) (verdict (answer.Reply (reply.Status p.task.tag status (sent_sense status s))) p.at id))))
+    (cond (not p.found) (rejected Codes.not_running) (verdict (Ok (answer.Reply (reply.Status p.task.tag status (sent_sense status s)))) p.at id))))

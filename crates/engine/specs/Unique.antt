@@ -1,6 +1,7 @@
 -- Each call's contract determines what it answers: two outcomes that meet it are equal, and so are the reply buffers
 -- as they are left.
-use Rattle.std.specs.Prelude.{ℕ, ◌≡◌, List}
+use Rattle.std.specs.Prelude.{ℕ, Result, ◌≡◌, List}
+use Rattle.wire.specs.declared.codes.Refusal.{Refusal}
 use Rattle.wire.specs.declared.codes.StatusByte.{StatusByte}
 use Rattle.wire.specs.declared.codes.Sense.{Sense}
 use Rattle.table.specs.declared.Table.{Table}
@@ -22,4 +23,4 @@ pub record AnswersAreOne : Type 0 where
   pub start_is_one : (t : Table) (unit : ℕ) → Only (StartContract t unit)
   pub finish_is_one : (t : Table) (arrival : ℕ) (status : StatusByte) (s : Sense) (transferred : ℕ) (buf : List ℕ) → OnlyWithReply (FinishContract t arrival status s transferred buf)
   pub total_reset_is_one : (t : Table) → Only (TotalResetContract t)
-  pub command_block_is_one : (m : List ℕ) (a : Answer) → Only (CommandBlockContract m a)
+  pub command_block_is_one : (m : List ℕ) (a : Result Answer Refusal) → Only (CommandBlockContract m a)

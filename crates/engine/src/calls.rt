@@ -20,48 +20,46 @@ use task::select::{Place, Selection};
 use wire::codes::{REPLY_ROOM, Refusal, Sense, StatusByte};
 
 // The path that a reply goes to, and 0 where the answer is none.
-fn reply_path(a: Answer, path: u32) -> u32
+fn reply_path(a: Result<Answer, Refusal>, path: u32) -> u32
     ensures { result ≡ reply_path a path }
 {
     match a {
-        Answer::Reply(_) => path,
+        Ok(Answer::Reply(_)) => path,
         _ => 0,
     }
 }
 
 // What is heard: nothing on a table that is not sound or with a buffer that is too small; else what the message asks.
-fn heard(sound: bool, room: usize, m: &[u8]) -> Asked
+#[tactic(auto, unfolding(crate::specs::Calls::heard_of))]
+fn heard(sound: bool, room: usize, m: &[u8]) -> Result<Asked, Refusal>
     ensures { result ≡ heard_of sound room m.now }
 {
     if !sound {
-        return Asked::Unread(Refusal::NotSound);
+        return Err(Refusal::NotSound);
     }
     if room < REPLY_ROOM {
-        return Asked::Unread(Refusal::SmallBuffer);
+        return Err(Refusal::SmallBuffer);
     }
-    plan::ask(wire::message::read(m))
+    Ok(plan::ask(wire::message::read(m)?))
 }
 
 // The id of the path that a message is from; 0 where nothing is heard.
-fn sender_of(a: Asked) -> u32
+fn sender_of(a: Result<Asked, Refusal>) -> u32
     ensures { result ≡ sender_of a }
 {
     match a {
-        Asked::Unread(_) => 0,
-        Asked::By {
-            path,
-            tag: _,
-            request: _,
-        } => path,
+        Err(_) => 0,
+        Ok(a) => a.path,
     }
 }
 
 // The reply that an answer is, into the buffer.
-fn reply_to(a: Answer, reply: &mut [u8])
+#[tactic(auto, unfolding(crate::specs::Calls::replied))]
+fn reply_to(a: Result<Answer, Refusal>, reply: &mut [u8])
     ensures { reply.new ≡ replied a reply.old }
 {
     match a {
-        Answer::Reply(r) => {
+        Ok(Answer::Reply(r)) => {
             reply::write(r, reply);
         }
         _ => {}
@@ -113,9 +111,10 @@ pub fn message(mut t: Table, m: &[u8], reply: &mut [u8]) -> Outcome
 {
     let asked = heard(is_sound(t), reply.len(), m);
     let plan = match asked {
-        Asked::Unread(n) => plan::refuse(n),
-        Asked::By { path, tag, request } => {
-            let p = t.path_of(path);
+        Err(n) => plan::refuse(n),
+        Ok(a) => {
+            let request = a.request;
+            let p = t.path_of(a.path);
             let lun = plan::unit_asked(request);
             let others = if plan::clears_set(request) {
                 t.others_on(lun, p)
@@ -125,9 +124,9 @@ pub fn message(mut t: Table, m: &[u8], reply: &mut [u8]) -> Outcome
             let lookup = if plan::goes_by_unit(request) {
                 unit_alone(t.is_attached(lun), others)
             } else {
-                look_up(t, p, plan::tag_asked(tag, request), lun, false)
+                look_up(t, p, plan::tag_asked(a.tag, request), lun, false)
             };
-            plan_for(lookup, t.next, p, tag, m, request)
+            plan_for(lookup, t.next, p, a.tag, m, request)
         }
     };
     let answer = plan.answer;
@@ -177,7 +176,7 @@ fn may_go(aca: Aca, unit: u8) -> Selection
 // reply goes to.
 #[derive(Clone, Copy)]
 pub struct Verdict {
-    pub answer: Answer,
+    pub answer: Result<Answer, Refusal>,
     pub place: usize,
     pub to: u32,
 }
@@ -186,7 +185,7 @@ fn reject(n: Refusal) -> Verdict
     ensures { result ≡ rejected n }
 {
     Verdict {
-        answer: Answer::Refused(n),
+        answer: Err(n),
         place: RECORDS,
         to: 0,
     }
@@ -194,6 +193,7 @@ fn reject(n: Refusal) -> Verdict
 
 // What a start comes to, by what was asked of the table: whether it passed the check, the unit is attached and busy,
 // and the task that may go next there.
+#[tactic(auto, unfolding(crate::specs::Steps::chosen_by))]
 fn choose(checked: bool, attached: bool, busy: bool, p: Pick) -> Verdict
     ensures { result ≡ chosen_by checked attached busy p }
 {
@@ -211,10 +211,10 @@ fn choose(checked: bool, attached: bool, busy: bool, p: Pick) -> Verdict
     }
     let a = p.task;
     Verdict {
-        answer: Answer::Started {
+        answer: Ok(Answer::Started {
             offset: a.position,
             arrival: a.arrival,
-        },
+        }),
         place: p.at,
         to: 0,
     }
@@ -276,6 +276,7 @@ fn sent_sense(status: StatusByte, sense: Sense) -> Sense
 
 // What a finish comes to, by what was asked of the table: whether it passed the check, the running task of the arrival
 // number, and the id of its path; for a reply buffer of n bytes.
+#[tactic(auto, unfolding(crate::specs::Steps::judged_by))]
 fn judge(checked: bool, n: usize, status: StatusByte, sense: Sense, p: Pick, id: u32) -> Verdict
     ensures { result ≡ judged_by checked n status sense p id }
 {
@@ -293,11 +294,11 @@ fn judge(checked: bool, n: usize, status: StatusByte, sense: Sense, p: Pick, id:
     }
     let a = p.task;
     Verdict {
-        answer: Answer::Reply(Reply::Status {
+        answer: Ok(Answer::Reply(Reply::Status {
             tag: a.tag,
             status,
             sense: sent_sense(status, sense),
-        }),
+        })),
         place: p.at,
         to: id,
     }
@@ -349,7 +350,7 @@ pub fn finish(
 pub fn total_reset(mut t: Table) -> Outcome
     ensures { TotalResetContract t result }
 {
-    let mut answer = Answer::Refused(Refusal::NotSound);
+    let mut answer = Err(Refusal::NotSound);
     let before = t.live;
     let mut stops: u8 = 0;
     if is_sound(t) {
@@ -361,7 +362,7 @@ pub fn total_reset(mut t: Table) -> Outcome
         let clear = table::units::clear_aca(units, Place::Anywhere);
         t.units = clear;
         t = t.step(Step::End(Selection::ALL));
-        answer = Answer::Reset;
+        answer = Ok(Answer::Reset);
     }
     Outcome {
         table: t,
@@ -373,14 +374,16 @@ pub fn total_reset(mut t: Table) -> Outcome
 }
 
 // The first table, for a list of path ids, the mask of attached units and the first arrival number.
+#[tactic(auto, unfolding(crate::specs::Calls::setup_of))]
 pub fn setup(ids: &[u32], attached: u8, first: u64) -> Outcome
     ensures { SetupContract ids.now attached first result }
 {
     let t = Table::new(ids, attached, first);
-    let mut answer = Answer::Ready;
-    if table::setup::bad_list(ids) {
-        answer = Answer::Refused(Refusal::BadPaths);
-    }
+    let answer = if table::setup::bad_list(ids) {
+        Err(Refusal::BadPaths)
+    } else {
+        Ok(Answer::Ready)
+    };
     Outcome {
         table: t,
         answer,
@@ -392,11 +395,12 @@ pub fn setup(ids: &[u32], attached: u8, first: u64) -> Outcome
 
 // The command block that goes to the device with an accepted command: a part of the message, no copy. Any other
 // answer hands over an empty part.
-pub fn command_block(m: &[u8], a: Answer) -> &[u8]
+#[tactic(auto, unfolding(crate::specs::Calls::handed_over))]
+pub fn command_block(m: &[u8], a: Result<Answer, Refusal>) -> &[u8]
     ensures { CommandBlockContract m.now a result.now }
 {
     match a {
-        Answer::Accepted(_) => wire::block::command_block(m),
+        Ok(Answer::Accepted(_)) => wire::block::command_block(m),
         _ => &m[..0],
     }
 }

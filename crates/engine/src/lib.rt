@@ -6,15 +6,16 @@ pub mod calls;
 
 use plan::Answer;
 use table::Table;
+use wire::codes::Refusal;
 
-// The next table and the answer. Which commands this call ended: bit i of `ended` for the one in record i of the table
+// The next table, and the answer or why the call is refused. Which commands this call ended: bit i of `ended` for the one in record i of the table
 // that was handed in. The id of the return path that a reply goes to, 0 with none: the sender of the message, or the
 // path of the finished task. Which units have to stop: bit u of `stops` where the command that ran on unit u was ended
 // by anything but its own finish.
 #[derive(Clone, Copy)]
 pub struct Outcome {
     pub table: Table,
-    pub answer: Answer,
+    pub answer: Result<Answer, Refusal>,
     pub ended: u64,
     pub to: u32,
     pub stops: u8,
