@@ -1,5 +1,6 @@
 -- What each call does to the table is its event's effect: by the path list, the attached units, the next number, the
 -- weight of the live tasks, and what each live record has after it. Assumes nothing.
+use Rattle.std.specs.Prelude.{Result, Ok, Err}
 use Prim.Native.Nat.{ℕ, ◌<◌}
 use mathlib.Core.Path.{◌≡◌, refl, sym, ap, ◌∙◌, subst}
 use mathlib.Core.Bool.{Bool, true, false, cond, ◌&&◌}
@@ -46,18 +47,17 @@ use Rattle.rules.specs.declared.change.SenderChange.TheVariants.{Stays, SetMark,
 use Rattle.rules.specs.declared.command.Ruling.{Ruling}
 use Rattle.rules.specs.declared.command.Ruling.TheVariants.{Refuse, Respond, Report, Invalid, Accept}
 use Rattle.rules.specs.declared.manage.Order.{Order}
-use Rattle.plan.specs.Plans.{asked_of, kind_of, sequel_of, report_change, ruled, order_plan, is_awaited, confirm_plan, sender_after, paths_after, units_after}
+use Rattle.plan.specs.Plans.{asking, asked_in, sequel_of, report_change, ruled, order_plan, is_awaited, confirm_plan, sender_after, paths_after, units_after}
 use Rattle.engine.specs.Calls.{refused, with_parts, with_records, carried_out, plan_at, message_of, choice_on, start_of, finish_of, total_reset_of}
 use Rattle.plan.specs.declared.Request.{Request}
 use Rattle.plan.specs.declared.Request.TheVariants.{Command, Manage, Confirm}
 use Rattle.plan.specs.declared.Asked.{Asked}
-use Rattle.plan.specs.declared.Asked.TheVariants.{By, Unread}
 use Rattle.plan.specs.declared.Plan.{Plan}
 use Rattle.plan.specs.declared.Answer.TheVariants as answer
 use Rattle.engine.specs.declared.Outcome.{Outcome}
 use Rattle.engine.proofs.Outcomes.{each_message, each_start, each_finish, each_reset, each_confirm}
 use Rattle.engine.proofs.Keeps.{accept_has_room}
-use Rattle.history.specs.Trace.{Event, Message, Start, Finish, TotalReset, Label, by_status, byTotalReset, by_order, counts_as_status, Effect, Nothing, Accepts, Starts, Finishes, Restarts, Ends, Fate, stays, becomes, ended, fate_of, place_in, command_effect, order_effect, confirm_effect, message_effect, effect_of}
+use Rattle.history.specs.Trace.{Event, Message, Start, Finish, TotalReset, Label, by_status, byTotalReset, by_order, counts_as_status, Effect, Nothing, Accepts, Starts, Finishes, Restarts, Ends, Fate, stays, becomes, ended, fate_of, place_in, command_effect, order_effect, confirm_effect, request_effect, message_effect, effect_of}
 use Rattle.history.proofs.Nth.{same_element}
 use Rattle.history.proofs.Totals.{weight_live, weight_zero, altered_weighs}
 use Rattle.history.proofs.Fates.{taken}
@@ -221,13 +221,13 @@ module _ (t : Table) (g : Good t) where
       }
 
   done_ruled : (p tag lun : ℕ) (flags : Flags) (r : Ruling) → (r ≡ Accept → has_room t ≡ true)
-      → Done (command_effect p tag lun (kind_of flags.queue) (sequel_of flags.confirm) (ruled t.next p tag lun flags r).answer) t (carried_out t (ruled t.next p tag lun flags r))
+      → Done (command_effect p tag lun flags.queue (sequel_of flags.confirm) (ruled t.next p tag lun flags r).answer) t (carried_out t (ruled t.next p tag lun flags r))
   unfolding carried_out with_records
   done_ruled p tag lun flags (Refuse n) room = done_nothing t
   done_ruled p tag lun flags (Respond code sender) room = done_parts (change.OfSender p sender)
   done_ruled p tag lun flags (Report status sense sender queue) room = done_parts (report_change p lun sender queue)
   done_ruled p tag lun flags (Invalid sender) room = done_parts (change.OfSender p sender)
-  done_ruled p tag lun flags Accept room = done_coming p tag lun (kind_of flags.queue) (sequel_of flags.confirm) (room refl)
+  done_ruled p tag lun flags Accept room = done_coming p tag lun flags.queue (sequel_of flags.confirm) (room refl)
 
   -- ---- an order
 
@@ -349,14 +349,17 @@ module _ (t : Table) (g : Good t) where
 
 -- ---- a refusal does nothing
 
-refused_message : (ids : List ℕ) (a : Asked) (n : Refusal) → message_effect ids a (answer.Refused n) ≡ Nothing
-refused_message ids (Unread k) n = refl
-refused_message ids (By path tag (Command lun flags)) n = refl
-refused_message ids (By path tag (Manage o)) n = refl
-refused_message ids (By path tag (Confirm offset complete)) n = refl
+refused_request : (p tag : ℕ) (w : Request) (n : Refusal) → request_effect p tag w (Err n) ≡ Nothing
+refused_request p tag (Command lun flags) n = refl
+refused_request p tag (Manage o) n = refl
+refused_request p tag (Confirm offset complete) n = refl
 
-pub refused_nothing : (ids : List ℕ) (ev : Event) (n : Refusal) → effect_of ids ev (answer.Refused n) ≡ Nothing
-refused_nothing ids (Message m buf) n = refused_message ids (asked_of (read_of m)) n
+refused_message : (ids : List ℕ) (a : Result Asked Refusal) (n : Refusal) → message_effect ids a (Err n) ≡ Nothing
+refused_message ids (Err k) n = refl
+refused_message ids (Ok b) n = refused_request (place_in ids b.path) b.tag b.request n
+
+pub refused_nothing : (ids : List ℕ) (ev : Event) (n : Refusal) → effect_of ids ev (Err n) ≡ Nothing
+refused_nothing ids (Message m buf) n = refused_message ids (asked_in (read_of m)) n
 refused_nothing ids (Start unit) n = refl
 refused_nothing ids (Finish arrival status sense transferred buf) n = refl
 refused_nothing ids TotalReset n = refl
@@ -385,11 +388,11 @@ module _ (ids : List ℕ) (t : Table) (g : Good t) (listed : t.count ≡ length 
   stops ev n = subst (λ (x : Effect). Done x t t) (sym (refused_nothing ids ev n)) (done_nothing t)
 
   done_planned : (m : List ℕ) (path tag : ℕ) (w : Request) → path_of t path < 8
-      → Done (message_effect ids (By path tag w) (plan_at t m (path_of t path) tag w).answer) t (carried_out t (plan_at t m (path_of t path) tag w))
+      → Done (message_effect ids (Ok (asking path tag w)) (plan_at t m (path_of t path) tag w).answer) t (carried_out t (plan_at t m (path_of t path) tag w))
   unfolding plan_at lookup_of
   done_planned m path tag (Command lun flags) l =
       let p : ℕ = path_of t path in
-      subst (λ (q : ℕ). Done (command_effect q tag lun (kind_of flags.queue) (sequel_of flags.confirm) (plan_at t m p tag (Command lun flags)).answer) t (carried_out t (plan_at t m p tag (Command lun flags)))) (sym (place path l))
+      subst (λ (q : ℕ). Done (command_effect q tag lun flags.queue (sequel_of flags.confirm) (plan_at t m p tag (Command lun flags)).answer) t (carried_out t (plan_at t m p tag (Command lun flags)))) (sym (place path l))
       (done_ruled t g p tag lun flags (deciding (facts_of t p tag lun) flags m).gives (accept_has_room t p tag lun flags m))
   done_planned m path tag (Manage o) l =
       let p : ℕ = path_of t path in
@@ -404,7 +407,7 @@ module _ (ids : List ℕ) (t : Table) (g : Good t) (listed : t.count ≡ length 
   message_done m buf =
       each_message (DoneBy (Message m buf)) t (stops (Message m buf)) m
       (λ path tag w e l.
-      subst (λ (a : Asked). Done (message_effect ids a (plan_at t m (path_of t path) tag w).answer) t (carried_out t (plan_at t m (path_of t path) tag w))) (sym e)
+      subst (λ (a : Result Asked Refusal). Done (message_effect ids a (plan_at t m (path_of t path) tag w).answer) t (carried_out t (plan_at t m (path_of t path) tag w))) (sym e)
       (done_planned m path tag w l))
       (length buf)
 

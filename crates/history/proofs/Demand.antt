@@ -1,5 +1,6 @@
 -- Demand 3, proved of the engine's contracts: whatever the calls handed back, the ledger of the calls and the last
 -- table agree. Assumes nothing.
+use Rattle.std.specs.Prelude.{Ok, Err}
 use Prim.Native.Nat.{ℕ, zero, suc, ◌<◌, ◌^◌}
 use mathlib.Core.Path.{◌≡◌, refl, sym, ap, subst, ◌∙◌}
 use mathlib.Core.Bool.{Bool, true, false, cond}
@@ -69,7 +70,7 @@ Keeps C = (ids : List ℕ) (l : List Entry) (t : Table) (n : ℕ) (ev : Event) (
 
 pub record Idles (o : Outcome) : Type 0 where
   pub number : Refusal
-  pub refused : o.answer ≡ answer.Refused number
+  pub refused : o.answer ≡ Err number
   pub table : o.table ≡ zero_table
 
 abbrev pub Refuses : Contract → Type 0
@@ -119,7 +120,7 @@ drive_keeps ids l t n TotalReset o left T c =
     rw c (kept ids l t (total_reset_of t).table T (reset_keeps t T.good) n _ (reset_done ids t T.good T.listed T.ids_stand))
 
 -- a call on the all-zero table is refused by 13
-pub unsound : (ev : Event) → ((engine ev zero_table).answer ≡ answer.Refused Codes.not_sound) × ((engine ev zero_table).table ≡ zero_table)
+pub unsound : (ev : Event) → ((engine ev zero_table).answer ≡ Err Codes.not_sound) × ((engine ev zero_table).table ≡ zero_table)
 unfolding engine message_of heard_of answered_to start_of start_verdict finish_of finish_verdict total_reset_of sound_of count_ok zero_table altered_at finished
 unsound (Message m buf) = (refl, refl)
 unsound (Start unit) = (refl, refl)
@@ -166,15 +167,15 @@ engine_agrees ids attached first evs l =
 
 -- ---- after a refused setup each call is refused
 
-refused_setup : (ids : List ℕ) (attached first : ℕ) (n : Refusal) → (setup_of ids attached first).answer ≡ answer.Refused n → bad_list ids ≡ true
+refused_setup : (ids : List ℕ) (attached first : ℕ) (n : Refusal) → (setup_of ids attached first).answer ≡ Err n → bad_list ids ≡ true
 unfolding setup_of
 refused_setup ids attached first n = cases (bad_list ids)
   where
-    cases : (b : Bool) → cond b (answer.Refused Codes.bad_paths) answer.Ready ≡ answer.Refused n → b ≡ true
+    cases : (b : Bool) → cond b (Err Codes.bad_paths) (Ok answer.Ready) ≡ Err n → b ≡ true
     cases true e = refl
     cases false e = let z : ◌≡◌ {A = ℕ} 0 1 = cc in absurd (omega arith)
 
-each_refused : (cs : List Call) → Chained Engine zero_table cs → (k : ℕ) (c : Call) → nth cs k ≡ some c → c.outcome.answer ≡ answer.Refused Codes.not_sound
+each_refused : (cs : List Call) → Chained Engine zero_table cs → (k : ℕ) (c : Call) → nth cs k ≡ some c → c.outcome.answer ≡ Err Codes.not_sound
 unfolding nth
 each_refused [] m k c e = absurd (none-ne-some c e)
 each_refused (d ∷ cs) m zero c e =
@@ -198,7 +199,7 @@ after_refused_setup ids attached first o n cs made refused chained =
 -- what such a call hands back
 pub data Works (ev : Event) (t : Table) (o : Outcome) : Type 0 where
   as_engine : o ≡ engine ev t → Works ev t o
-  refusing : (n : Refusal) → o.answer ≡ answer.Refused n → o.table ≡ t → Works ev t o
+  refusing : (n : Refusal) → o.answer ≡ Err n → o.table ≡ t → Works ev t o
 
 abbrev pub WorksOrRefuses : Contract
 WorksOrRefuses ev t o left = Works ev t o

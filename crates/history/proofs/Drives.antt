@@ -1,5 +1,6 @@
 -- The seven wrong drives do not meet demand 3, each by a short trace, computed; and of the drives that echo those
 -- break it that go on answering, and those meet it that refuse. Assumes nothing.
+use Rattle.std.specs.Prelude.{Result, Err}
 use Prim.Native.Nat.{ℕ, ◌<◌, ◌≤◌, ◌^◌}
 use mathlib.Core.Path.{◌≡◌, refl, sym, ap, subst, ◌∙◌}
 use mathlib.Core.List.{◌++◌, List, [], ◌∷◌}
@@ -103,7 +104,7 @@ echo_breaks d E answers m =
     let ev' : Event = inquiry 1 6 in
     let h : List Told = first_told d E ev ev' fresh ∷ record { event = ev'; answer = (engine ev' (engine ev fresh).table).answer } ∷ [] in
     let same : told (calls_by d [] fresh (ev ∷ ev' ∷ [])) ≡ h =
-    told_two d E ev ev' fresh ∙ ap (λ (a : Answer). first_told d E ev ev' fresh ∷ record { event = ev'; answer = a } ∷ []) (answers _ [] ev' (engine ev fresh).table) in
+    told_two d E ev ev' fresh ∙ ap (λ (a : Result Answer Refusal). first_told d E ev ev' fresh ∷ record { event = ev'; answer = a } ∷ []) (answers _ [] ev' (engine ev fresh).table) in
     let agreed : Agrees hosts h (engine ev fresh).table =
     subst (Agrees hosts h) (last_two d E ev ev' fresh)
     (subst (λ (h : List Told). Agrees hosts h (last_table fresh (calls_by d [] fresh (ev ∷ ev' ∷ [])))) same (m hosts 0x01 1 (ev ∷ ev' ∷ []) (omega arith))) in
@@ -130,7 +131,7 @@ module _ (d : Remembering) (E : Echoes d) where
       ∙ ap (λ (u : Table). ones u.live) (first_last t ev rest ∙ sym (first_last t ev more))
       ∙ (m ids attached first (ev ∷ more) l).live_count)
 
-module _ (d : Remembering) (E : Echoes d) (R : (x : Told) (h : List Told) (ev : Event) (t : Table) → (n : Refusal) × ((d (x ∷ h) ev t).answer ≡ answer.Refused n)) where
+module _ (d : Remembering) (E : Echoes d) (R : (x : Told) (h : List Told) (ev : Event) (t : Table) → (n : Refusal) × ((d (x ∷ h) ev t).answer ≡ Err n)) where
   later : (x : Told) (h : List Told) (t : Table) (evs : List Event) → Chained WorksOrRefuses t (calls_by d (x ∷ h) t evs)
   unfolding calls_by
   later x h t [] = tt

@@ -1,5 +1,6 @@
 -- M-103 over any calls: the ACA of a unit stays until it is taken away, and meanwhile nothing but the ACA task is started
 -- there. Each call is looked at by its ways out, as for demand 3. Assumes nothing.
+use Rattle.std.specs.Prelude.{Result, Ok}
 use Prim.Native.Nat.{ℕ, zero, suc, ◌<◌}
 use mathlib.Core.Path.{◌≡◌, refl, sym, ap, ◌∙◌}
 use mathlib.Core.Bool.{Bool, true, false, cond, ◌&&◌}
@@ -9,6 +10,7 @@ use native.Mathlib.Decide.{ℕ_discrete}
 use lib.ListN.{length}
 use lib.Dec.{eqb}
 use borrow.Author.Tests.{eq-eqb, eqb-true}
+use Rattle.wire.specs.declared.codes.Refusal.{Refusal}
 use Rattle.wire.specs.Codes
 use Rattle.wire.specs.Messages.{read_of}
 use Rattle.wire.specs.declared.codes.StatusByte.{StatusByte}
@@ -43,10 +45,9 @@ use Rattle.rules.specs.declared.command.Ruling.{Ruling}
 use Rattle.rules.specs.declared.command.Ruling.TheVariants.{Refuse, Respond, Report, Invalid, Accept}
 use Rattle.rules.specs.declared.manage.Order.{Order}
 use Rattle.rules.specs.declared.manage.Order.TheVariants.{AbortTask, AbortTaskSet, ClearTaskSet, ClearAca, UnitReset, TargetReset}
-use Rattle.plan.specs.Plans.{asked_of, reply_of, ruled, order_plan, units_after}
+use Rattle.plan.specs.Plans.{asking, asked_in, reply_of, ruled, order_plan, units_after}
 use Rattle.plan.specs.declared.Request.{Request}
 use Rattle.plan.specs.declared.Request.TheVariants.{Command, Manage, Confirm}
-use Rattle.plan.specs.declared.Asked.TheVariants.{By}
 use Rattle.plan.specs.declared.Plan.{Plan}
 use Rattle.plan.specs.declared.Answer.{Answer}
 use Rattle.plan.specs.declared.Answer.TheVariants as answer
@@ -131,16 +132,16 @@ module _ (t : Table) (g : Good t) (p unit : ℕ) where
   order_said : (m : List ℕ) (q tag : ℕ) (o : Order) → (order_releases p unit q o && is_done (reply_of (plan_at t m q tag (Manage o)).answer)) ≡ (order_releases p unit q o && done_by m q o)
   unfolding plan_at lookup_of
   order_said m q tag o =
-      ap (λ (a : Answer). order_releases p unit q o && is_done (reply_of a)) (order_answer (facts_of t q (tag_of o) (unit_of o)) (others_on t (unit_of o) q) q tag m o)
+      ap (λ (a : Result Answer Refusal). order_releases p unit q o && is_done (reply_of a)) (order_answer (facts_of t q (tag_of o) (unit_of o)) (others_on t (unit_of o) q) q tag m o)
 
   -- the sender's place in the table is that in the list
   module _ (ids : List ℕ) (names : Lists ids t) where
-    releases_so : (m buf : List ℕ) (path tag : ℕ) (w : Request) → asked_of (read_of m) ≡ By path tag w → path_of t path < 8
-        → (a : Answer) → releases ids p unit (Message m buf) a ≡ (asks p unit (path_of t path) w && is_done (reply_of a))
+    releases_so : (m buf : List ℕ) (path tag : ℕ) (w : Request) → asked_in (read_of m) ≡ Ok (asking path tag w) → path_of t path < 8
+        → (a : Result Answer Refusal) → releases ids p unit (Message m buf) a ≡ (asks p unit (path_of t path) w && is_done (reply_of a))
     releases_so m buf path tag w e l a = ap (λ (b : Bool). b && is_done (reply_of a))
         (ap (ask_releases ids p unit) e ∙ by_request w ∙ ap (λ (q : ℕ). asks p unit q w) (place ids t g names.count names.each path l))
       where
-        by_request : (w : Request) → ask_releases ids p unit (By path tag w) ≡ asks p unit (place_in ids path) w
+        by_request : (w : Request) → ask_releases ids p unit (Ok (asking path tag w)) ≡ asks p unit (place_in ids path) w
         by_request (Command lun flags) = refl
         by_request (Manage o) = refl
         by_request (Confirm offset complete) = refl
@@ -170,7 +171,7 @@ module _ (t : Table) (g : Good t) (p unit : ℕ) where
   unfolding engine
   call_clear ids names (Message m buf) =
       each_message (λ (o : Outcome). releases ids p unit (Message m buf) o.answer ≡ true → aca_at o.table.units unit ≡ Clear) t
-      (λ _ h. absurd (never (both (ask_releases ids p unit (asked_of (read_of m))) false h).1 refl)) m
+      (λ _ h. absurd (never (both (ask_releases ids p unit (asked_in (read_of m))) false h).1 refl)) m
       (λ path tag w e l h. plan_clear m (path_of t path) tag w (sym (releases_so ids names m buf path tag w e l (plan_at t m (path_of t path) tag w).answer) ∙ h)) (length buf)
   call_clear ids names (Start v) = λ h. absurd (never h refl)
   call_clear ids names (Finish arrival status sense transferred buf) = λ h. absurd (never h refl)
@@ -284,11 +285,11 @@ module _ (t : Table) (g : Good t) (p unit : ℕ) (owned : aca_at t.units unit �
       ))
 
   -- the task that it takes
-  start_takes : (offset arrival : ℕ) (o : Outcome) → o ≡ start_of t unit → o.answer ≡ answer.Started offset arrival
+  start_takes : (offset arrival : ℕ) (o : Outcome) → o ≡ start_of t unit → o.answer ≡ Ok (answer.Started offset arrival)
       → (i : ℕ) × (a : Task) × AcaTask t p unit i a × (a.arrival ≡ arrival)
   unfolding choice_on
   start_takes offset arrival o e h =
-      each_start (λ (x : Outcome). x.answer ≡ answer.Started offset arrival → (i : ℕ) × (a : Task) × AcaTask t p unit i a × (a.arrival ≡ arrival)) t (λ _. unlike refl) unit
+      each_start (λ (x : Outcome). x.answer ≡ Ok (answer.Started offset arrival) → (i : ℕ) × (a : Task) × AcaTask t p unit i a × (a.arrival ≡ arrival)) t (λ _. unlike refl) unit
       (λ _ _ found y.
       let k : ℕ = (choice_on t unit).at in
       let c : Task = (choice_on t unit).task in
@@ -354,7 +355,7 @@ good_after TotalReset t g = reset_keeps t g
 module _ (ids : List ℕ) (p unit : ℕ) where
   -- call k of a chain, by the first call and the rest
   starts_of : (t : Table) (c : Call) (cs : List Call) → Good t → aca_at t.units unit ≡ Owned p → Engine c.event t c.outcome c.left → StaysHeld c.outcome.table cs p unit
-      → (k : ℕ) (x : Call) (offset arrival : ℕ) → nth (c ∷ cs) k ≡ some x → x.event ≡ Start unit → x.outcome.answer ≡ answer.Started offset arrival
+      → (k : ℕ) (x : Call) (offset arrival : ℕ) → nth (c ∷ cs) k ≡ some x → x.event ≡ Start unit → x.outcome.answer ≡ Ok (answer.Started offset arrival)
       → (i : ℕ) × (a : Task) × AcaTask (given t (c ∷ cs) k) p unit i a × (a.arrival ≡ arrival)
   unfolding given nth engine
   starts_of t c cs g owned made rest zero x offset arrival e s h =

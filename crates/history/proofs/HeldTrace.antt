@@ -1,5 +1,6 @@
 -- M-103 on the trace alone: behind a command that is answered STATUS 02h on an attached unit, each number that a start of
 -- the unit answers was given to an ACA command of the same path. The premises can be met. Assumes nothing.
+use Rattle.std.specs.Prelude.{Ok}
 use Prim.Native.Nat.{ℕ, zero, suc, ◌<◌, ◌^◌}
 use mathlib.Core.Path.{◌≡◌, refl, sym, ap, subst, ◌∙◌}
 use mathlib.Core.Bool.{true, false}
@@ -18,13 +19,12 @@ use Rattle.table.specs.Tables.{path_of, is_attached, bit_of}
 use Rattle.table.specs.Setup.{bad_list, fresh_table, setup_table}
 use Rattle.table.specs.declared.Table.{Table}
 use Rattle.sound.specs.Promises.{Good}
-use Rattle.plan.specs.Plans.{asked_of}
+use Rattle.plan.specs.Plans.{asking, asked_in}
 use Rattle.plan.specs.declared.Request.TheVariants.{Command}
-use Rattle.plan.specs.declared.Asked.TheVariants.{By}
 use Rattle.engine.specs.Calls.{message_of, setup_of, SetupContract}
 use Rattle.engine.specs.Holding.{CommandCall, rule_for, says02, held_by}
 use Rattle.engine.specs.declared.Outcome.{Outcome}
-use Rattle.engine.proofs.Outcomes.{each_message}
+use Rattle.engine.proofs.Outcomes.{one_asked, each_message}
 use Rattle.engine.proofs.Holding.{holds_queue_law}
 use Rattle.history.specs.Trace.{Event, Message, nth}
 use Rattle.history.specs.Demand.{Call, told, Contract, Engine, Chained, last_table, waiting}
@@ -106,14 +106,13 @@ steady_fresh ids attached first l b =
 
 -- ---- a command that is answered by a STATUS is from a listed path
 
-listed_sender : (t : Table) (m : List ℕ) (n path tag lun : ℕ) (flags : Flags) → asked_of (read_of m) ≡ By path tag (Command lun flags) → says02 (message_of t m n).answer ≡ true
+listed_sender : (t : Table) (m : List ℕ) (n path tag lun : ℕ) (flags : Flags) → asked_in (read_of m) ≡ Ok (asking path tag (Command lun flags)) → says02 (message_of t m n).answer ≡ true
     → path_of t path < 8
 listed_sender t m n path tag lun flags e =
     each_message (λ (o : Outcome). says02 o.answer ≡ true → path_of t path < 8) t (λ _ h. absurd (never h refl)) m
     (λ path2 tag2 w f l _.
-    let same : By path2 tag2 w ≡ By path tag (Command lun flags) = sym f ∙ e in
-    let x : path2 ≡ path = cc in
-    rw x at l)
+    let same = one_asked path tag path2 tag2 (Command lun flags) w f e in
+    rw same.0 at l)
     n
 
 -- ---- the theorem

@@ -39,7 +39,7 @@ use Rattle.plan.specs.declared.RecordChange.TheVariants as records
 use Rattle.plan.specs.declared.Plan.{Plan}
 use Rattle.engine.specs.declared.Outcome.{Outcome}
 use Rattle.history.specs.Demand.{may_reach_others, OthersStay}
-use Rattle.engine.proofs.Outcomes.{each_message, each_confirm}
+use Rattle.engine.proofs.Outcomes.{one_asked, each_message, each_confirm}
 use Rattle.history.proofs.Nth.{same_element}
 use Rattle.history.proofs.Traces.{own_order, own_numbered}
 
@@ -110,6 +110,7 @@ others_stay t m buf o left path tag w g answers says r i a l e n =
     ap (λ (u : Outcome). at u.table i) answers.outcome
     ∙ each_message (λ (u : Outcome). Holds i a u.table) t (λ _. e) m
     (λ path' tag' w' says' _.
-    let p : path ≡ path' = cc in
-    let v : w ≡ w' = cc in
+    let same = one_asked path' tag' path tag w' w says says' in
+    let p : path ≡ path' = same.0 in
+    let v : w ≡ w' = same.2 in
     plan_leaves i a l t g.shaped e (plan_at t m (path_of t path') tag' w') (plan_spares i a l t g.shaped e (path_of t path') (rw p at n) m tag' w' (rw v at r))) (length buf)

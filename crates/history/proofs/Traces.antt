@@ -1,5 +1,6 @@
 -- What holds of the ledger of any trace, with no table and no contract: each entry and each ending has its event,
 -- each accepted command has its entry, and whose commands a message ends. Assumes nothing.
+use Rattle.std.specs.Prelude.{Result, Ok, Err}
 use Prim.Native.Nat.{ℕ, zero, suc, ◌+◌, ◌<◌}
 use mathlib.Core.Path.{◌≡◌, refl, sym, ap, subst, ◌∙◌}
 use mathlib.Core.Bool.{Bool, true, false}
@@ -30,16 +31,15 @@ use Rattle.task.proofs.Ways.{never, both}
 use Rattle.task.proofs.Places.{below_suc}
 use Rattle.task.proofs.Selecting.{meets}
 use Rattle.rules.specs.Management.{ends_of}
-use Rattle.plan.specs.Plans.{asked_of, kind_of, sequel_of, reply_of}
+use Rattle.plan.specs.Plans.{asking, asked_in, sequel_of, reply_of}
 use Rattle.rules.specs.declared.manage.Order.{Order}
 use Rattle.rules.specs.declared.manage.Order.TheVariants.{AbortTask, AbortTaskSet, ClearTaskSet, ClearAca, UnitReset, TargetReset}
 use Rattle.plan.specs.declared.Request.{Request}
 use Rattle.plan.specs.declared.Request.TheVariants.{Command, Manage, Confirm}
 use Rattle.plan.specs.declared.Asked.{Asked}
-use Rattle.plan.specs.declared.Asked.TheVariants.{By, Unread}
 use Rattle.plan.specs.declared.Answer.{Answer}
 use Rattle.plan.specs.declared.Answer.TheVariants as answer
-use Rattle.history.specs.Trace.{Event, Message, Start, Finish, TotalReset, Told, nth, event_numbered, Label, by_status, by_order, Effect, Nothing, Accepts, Restarts, Ends, Fate, stays, becomes, ended, fate_of, place_in, command_effect, order_replied, order_effect, confirm_effect, message_effect, start_effect, finish_replied, reset_effect, effect_of, effect_told}
+use Rattle.history.specs.Trace.{Event, Message, Start, Finish, TotalReset, Told, nth, event_numbered, Label, by_status, by_order, Effect, Nothing, Accepts, Restarts, Ends, Fate, stays, becomes, ended, fate_of, place_in, command_effect, order_replied, order_effect, confirm_effect, request_effect, message_effect, start_effect, finish_replied, reset_effect, effect_of, effect_told}
 use Rattle.history.specs.Ledger.{Ending, Entry, is_empty, new_entry, after_effect, new_entries, noted, ledger_from, ledger, Has}
 use Rattle.history.specs.Demand.{EntryAt, waiting, Came, Caused, reaches_others, may_reach_others, EndsItsOwn}
 use Rattle.history.proofs.Nth.{Each, same_element, nth_below, nth_append, nth_last, nth_map, each_none, each_one, each_append, each_map}
@@ -48,16 +48,16 @@ use Rattle.history.proofs.Fates.{effect_ways, taken, new_entries_ways}
 -- ---- what an event can do, by its answer
 
 -- a fact about every answer, from each sort of answer; and about every reply that an answer may be
-each_answer : (P : Answer → Type 0) → P answer.Ready → ((n : ℕ) → P (answer.Accepted n)) → ((r : Reply) → P (answer.Reply r)) → ((o n : ℕ) → P (answer.Started o n))
-    → ((n : ℕ) → P (answer.Confirmed n)) → ((n : ℕ) → P (answer.Restarted n)) → P answer.Reset → ((n : Refusal) → P (answer.Refused n)) → (a : Answer) → P a
-each_answer P ready accepted replied started confirmed restarted reset refused answer.Ready = ready
-each_answer P ready accepted replied started confirmed restarted reset refused (answer.Accepted n) = accepted n
-each_answer P ready accepted replied started confirmed restarted reset refused (answer.Reply r) = replied r
-each_answer P ready accepted replied started confirmed restarted reset refused (answer.Started o n) = started o n
-each_answer P ready accepted replied started confirmed restarted reset refused (answer.Confirmed n) = confirmed n
-each_answer P ready accepted replied started confirmed restarted reset refused (answer.Restarted n) = restarted n
-each_answer P ready accepted replied started confirmed restarted reset refused answer.Reset = reset
-each_answer P ready accepted replied started confirmed restarted reset refused (answer.Refused n) = refused n
+each_answer : (P : Result Answer Refusal → Type 0) → P (Ok answer.Ready) → ((n : ℕ) → P (Ok (answer.Accepted n))) → ((r : Reply) → P (Ok (answer.Reply r))) → ((o n : ℕ) → P (Ok (answer.Started o n)))
+    → ((n : ℕ) → P (Ok (answer.Confirmed n))) → ((n : ℕ) → P (Ok (answer.Restarted n))) → P (Ok answer.Reset) → ((n : Refusal) → P (Err n)) → (a : Result Answer Refusal) → P a
+each_answer P ready accepted replied started confirmed restarted reset refused (Ok answer.Ready) = ready
+each_answer P ready accepted replied started confirmed restarted reset refused (Ok (answer.Accepted n)) = accepted n
+each_answer P ready accepted replied started confirmed restarted reset refused (Ok (answer.Reply r)) = replied r
+each_answer P ready accepted replied started confirmed restarted reset refused (Ok (answer.Started o n)) = started o n
+each_answer P ready accepted replied started confirmed restarted reset refused (Ok (answer.Confirmed n)) = confirmed n
+each_answer P ready accepted replied started confirmed restarted reset refused (Ok (answer.Restarted n)) = restarted n
+each_answer P ready accepted replied started confirmed restarted reset refused (Ok answer.Reset) = reset
+each_answer P ready accepted replied started confirmed restarted reset refused (Err n) = refused n
 
 each_reply : (P : Option Reply → Type 0) → P none → ((t : ℕ) (code : ReturnCode) → P (some (reply.Response t code)))
     → ((t : ℕ) (status : StatusByte) (sense : Sense) → P (some (reply.Status t status sense))) → ((t : ℕ) → P (some (reply.Invalid t))) → (x : Option Reply) → P x
@@ -69,19 +69,19 @@ each_reply P nothing response status invalid (some (reply.Invalid t)) = invalid 
 module _ (P : Effect → Type 0) (nothing : P Nothing) where
   -- a command is accepted, and then waits
   command_can : (p tag lun : ℕ) (kind : Kind) (sequel : Sequel) → ((n : ℕ) → P (Accepts (accepted_as n p tag lun kind sequel)))
-      → (a : Answer) → P (command_effect p tag lun kind sequel a)
+      → (a : Result Answer Refusal) → P (command_effect p tag lun kind sequel a)
   command_can p tag lun kind sequel accepts =
       each_answer (λ a. P (command_effect p tag lun kind sequel a)) nothing accepts (λ _. nothing) (λ _ _. nothing) (λ _. nothing) (λ _. nothing) nothing (λ _. nothing)
 
   -- an order ends what it selects
-  order_can : (p : ℕ) (o : Order) → P (Ends (ends_of p o) (by_order o)) → (a : Answer) → P (order_effect p o a)
+  order_can : (p : ℕ) (o : Order) → P (Ends (ends_of p o) (by_order o)) → (a : Result Answer Refusal) → P (order_effect p o a)
   order_can p o ends a =
       each_reply (λ x. P (order_replied p o x)) nothing
       (λ t code. cond_ind P (eqb code.0 (Codes.done).0) (λ _. ends) (λ _. nothing)) (λ _ _ _. nothing) (λ _. nothing) (reply_of a)
 
   -- a confirmation ends a command, or has it wait again
   confirm_can : (p tag offset : ℕ) (complete : Bool) → ((n : ℕ) → P (Ends (numbered_as n p tag) by_status)) → ((n : ℕ) → P (Restarts (numbered_as n p tag) offset))
-      → (a : Answer) → P (confirm_effect p tag offset complete a)
+      → (a : Result Answer Refusal) → P (confirm_effect p tag offset complete a)
   confirm_can p tag offset complete ends restarts =
       each_answer (λ a. P (confirm_effect p tag offset complete a)) nothing (λ _. nothing) (λ _. nothing) (λ _ _. nothing)
       (λ n. cond_ind P complete (λ _. ends n) (λ _. nothing)) (λ n. cond_ind P complete (λ _. nothing) (λ _. restarts n)) nothing (λ _. nothing)
@@ -94,14 +94,17 @@ Waits (some a) = waiting a ≡ a
 abbrev AcceptsWaiting : Effect → Type 0
 AcceptsWaiting f = Waits (taken f)
 
-message_waiting : (ids : List ℕ) (q : Asked) (a : Answer) → AcceptsWaiting (message_effect ids q a)
-message_waiting ids (Unread n) a = tt
-message_waiting ids (By path tag (Command lun flags)) a = command_can AcceptsWaiting tt (place_in ids path) tag lun (kind_of flags.queue) (sequel_of flags.confirm) (λ _. refl) a
-message_waiting ids (By path tag (Manage o)) a = order_can AcceptsWaiting tt (place_in ids path) o tt a
-message_waiting ids (By path tag (Confirm offset complete)) a = confirm_can AcceptsWaiting tt (place_in ids path) tag offset complete (λ _. tt) (λ _. tt) a
+request_waiting : (p tag : ℕ) (w : Request) (a : Result Answer Refusal) → AcceptsWaiting (request_effect p tag w a)
+request_waiting p tag (Command lun flags) a = command_can AcceptsWaiting tt p tag lun flags.queue (sequel_of flags.confirm) (λ _. refl) a
+request_waiting p tag (Manage o) a = order_can AcceptsWaiting tt p o tt a
+request_waiting p tag (Confirm offset complete) a = confirm_can AcceptsWaiting tt p tag offset complete (λ _. tt) (λ _. tt) a
 
-event_waiting : (ids : List ℕ) (ev : Event) (a : Answer) → AcceptsWaiting (effect_of ids ev a)
-event_waiting ids (Message m buf) a = message_waiting ids (asked_of (read_of m)) a
+message_waiting : (ids : List ℕ) (q : Result Asked Refusal) (a : Result Answer Refusal) → AcceptsWaiting (message_effect ids q a)
+message_waiting ids (Err n) a = tt
+message_waiting ids (Ok b) a = request_waiting (place_in ids b.path) b.tag b.request a
+
+event_waiting : (ids : List ℕ) (ev : Event) (a : Result Answer Refusal) → AcceptsWaiting (effect_of ids ev a)
+event_waiting ids (Message m buf) a = message_waiting ids (asked_in (read_of m)) a
 event_waiting ids (Start unit) a =
     each_answer (λ a. AcceptsWaiting (start_effect a)) tt (λ _. tt) (λ _. tt) (λ _ _. tt) (λ _. tt) (λ _. tt) tt (λ _. tt) a
 event_waiting ids (Finish arrival status sense transferred buf) a =
@@ -285,11 +288,11 @@ module _ (p : ℕ) where
   unfolding fate_of
   from_end s how own a = cond_ind (λ (x : Fate). is_ended x ≡ true → a.path ≡ p) (picks s a) (λ y _. own a y) (λ _ e. absurd (never e refl))
 
-own_message : (ids : List ℕ) (path tag : ℕ) (w : Request) (a : Answer) → may_reach_others w ≡ false
-    → EndsFrom (place_in ids path) (message_effect ids (By path tag w) a)
+own_message : (ids : List ℕ) (path tag : ℕ) (w : Request) (a : Result Answer Refusal) → may_reach_others w ≡ false
+    → EndsFrom (place_in ids path) (message_effect ids (Ok (asking path tag w)) a)
 own_message ids path tag (Command lun flags) a r =
     let p : ℕ = place_in ids path in
-    command_can (EndsFrom p) (from_nothing p) p tag lun (kind_of flags.queue) (sequel_of flags.confirm) (λ n. from_accept p _) a
+    command_can (EndsFrom p) (from_nothing p) p tag lun flags.queue (sequel_of flags.confirm) (λ n. from_accept p _) a
 own_message ids path tag (Manage o) a r =
     let p : ℕ = place_in ids path in
     order_can (EndsFrom p) (from_nothing p) p o (from_end p (ends_of p o) (by_order o) (own_order p o r)) a
@@ -302,8 +305,8 @@ own_message ids path tag (Confirm offset complete) a r =
 pub ends_its_own : EndsItsOwn
 ends_its_own ids h k e x m buf path tag w g i y there sent asked r =
     let c = caused_in ids h k e x g i in
-    let f : effect_told ids c.cause ≡ message_effect ids (By path tag w) y.answer =
+    let f : effect_told ids c.cause ≡ message_effect ids (Ok (asking path tag w)) y.answer =
     ap (effect_told ids) (same_element c.there there)
     ∙ ap (λ (v : Event). effect_of ids v y.answer) sent
-    ∙ ap (λ (q : Asked). message_effect ids q y.answer) asked in
+    ∙ ap (λ (q : Result Asked Refusal). message_effect ids q y.answer) asked in
     own_message ids path tag w y.answer r e.task (ap (λ (f : Effect). is_ended (fate_of f e.task)) (sym f) ∙ ap is_ended c.effect)

@@ -1,5 +1,6 @@
 -- Demand 3. Take any calls after one setup, each given the table that the last one handed back; work out the ledger
 -- from calls and answers alone; then ledger and table agree.
+use Rattle.std.specs.Prelude.{Ok, Err}
 use Rattle.std.specs.Prelude.{ℕ, ◌+◌, ◌<◌, ◌≤◌, ◌^◌, ◌≡◌, Bool, true, false, List, [], ◌∷◌, map}
 use Rattle.std.proofs.Math.Option.{some}
 use Rattle.std.specs.Int.Count.{ones}
@@ -12,14 +13,13 @@ use Rattle.table.specs.Tables.{path_of, zero_table}
 use Rattle.table.specs.View.{at, live_of}
 use Rattle.sound.specs.Promises.{Good}
 use Rattle.table.specs.declared.Table.{Table}
-use Rattle.plan.specs.Plans.{asked_of}
+use Rattle.plan.specs.Plans.{asking, asked_in}
 use Rattle.engine.specs.Calls.{SetupContract, MessageContract, StartContract, FinishContract, TotalResetContract}
 use Rattle.rules.specs.declared.manage.Order.{Order}
 use Rattle.rules.specs.declared.manage.Order.TheVariants.{AbortTask, AbortTaskSet, ClearTaskSet, ClearAca, UnitReset, TargetReset}
 use Rattle.plan.specs.declared.Request.{Request}
 use Rattle.plan.specs.declared.Request.TheVariants.{Command, Manage, Confirm}
-use Rattle.plan.specs.declared.Asked.TheVariants.{By}
-use Rattle.plan.specs.declared.Answer.TheVariants.{Refused}
+
 use Rattle.engine.specs.declared.Outcome.{Outcome}
 use Rattle.history.specs.Trace.{Event, Message, Start, Finish, TotalReset, Told, nth, event_numbered, counts_as_status, counts_as_management, counts_as_reset, Accepts, ended, fate_of, place_in, effect_told}
 use Rattle.history.specs.Ledger.{Ending, Entry, is_open, times_ended, ledger, count_of, Has, accepted_from, ended_from}
@@ -115,12 +115,12 @@ Demand3 C = (ids : List ℕ) (attached first : ℕ) (o : Outcome) (cs : List Cal
 
 -- after a refused setup each call is refused by 13, the table stays all zero, and the ledger is empty
 pub record Refusing (ids : List ℕ) (t : Table) (cs : List Call) : Type 0 where
-  pub refused : (k : ℕ) (c : Call) → nth cs k ≡ some c → c.outcome.answer ≡ Refused Codes.not_sound
+  pub refused : (k : ℕ) (c : Call) → nth cs k ≡ some c → c.outcome.answer ≡ Err Codes.not_sound
   pub table : last_table t cs ≡ zero_table
   pub empty : ledger ids (told cs) ≡ []
 
 abbrev pub AfterRefusedSetup : Type 0
-AfterRefusedSetup = (ids : List ℕ) (attached first : ℕ) (o : Outcome) (n : Refusal) (cs : List Call) → SetupContract ids attached first o → o.answer ≡ Refused n → Chained Engine o.table cs
+AfterRefusedSetup = (ids : List ℕ) (attached first : ℕ) (o : Outcome) (n : Refusal) (cs : List Call) → SetupContract ids attached first o → o.answer ≡ Err n → Chained Engine o.table cs
     → Refusing ids o.table cs
 
 -- ---- for the customer: whose commands a message ends
@@ -142,11 +142,11 @@ may_reach_others (Confirm offset complete) = false
 -- in the ledger of any trace, whatever the tags: a command that is ended by another order was the sender's own
 abbrev pub EndsItsOwn : Type 0
 EndsItsOwn = (ids : List ℕ) (h : List Told) (k : ℕ) (e : Entry) (x : Ending) (m buf : List ℕ) (path tag : ℕ) (w : Request)
-    → EntryAt ids h k e → Has x e.endings → (y : Told) → event_numbered h x.event ≡ some y → y.event ≡ Message m buf → asked_of (read_of m) ≡ By path tag w
+    → EntryAt ids h k e → Has x e.endings → (y : Told) → event_numbered h x.event ≡ some y → y.event ≡ Message m buf → asked_in (read_of m) ≡ Ok (asking path tag w)
     → may_reach_others w ≡ false → e.task.path ≡ place_in ids path
 
 -- in the table: such a message leaves every live record of another path where it is and as it is
 abbrev pub OthersStay : Type 0
 OthersStay = (t : Table) (m buf : List ℕ) (o : Outcome) (left : List ℕ) (path tag : ℕ) (w : Request)
-    → Good t → MessageContract t m buf o left → asked_of (read_of m) ≡ By path tag w → may_reach_others w ≡ false
+    → Good t → MessageContract t m buf o left → asked_in (read_of m) ≡ Ok (asking path tag w) → may_reach_others w ≡ false
     → (i : ℕ) (a : Task) → i < 64 → at t i ≡ some a → (a.path ≡ path_of t path → ⊥) → at o.table i ≡ some a

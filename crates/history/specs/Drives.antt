@@ -1,6 +1,7 @@
 -- Drives: the engine's own calls; seven that differ from it in one thing and break demand 3 on a short trace; those
 -- that work at the first call and afterwards only echo; and one that refuses every call, which demand 3 alone does
 -- not refuse.
+use Rattle.std.specs.Prelude.{Result, Ok, Err}
 use Rattle.std.specs.Prelude.{ℕ, zero, suc, ◌-◌, ◌<◌, ◌^◌, ◌≡◌, cond, List, [], ◌∷◌, ◌++◌, length, set, eqb}
 use Rattle.wire.specs.Codes
 use Rattle.wire.specs.Fields.{byte}
@@ -16,13 +17,13 @@ use Rattle.task.specs.declared.select.Stage.TheVariants.{AnyPhase}
 use Rattle.task.specs.declared.select.Selection.{Selection}
 use Rattle.table.specs.Tables.{ended_by}
 use Rattle.table.specs.declared.Table.{Table}
-use Rattle.plan.specs.Plans.{asked_of}
+use Rattle.plan.specs.Plans.{asking, asked_in}
 use Rattle.engine.specs.Calls.{message_of, start_of, finish_of, total_reset_of, setup_of, replied, out}
 use Rattle.rules.specs.declared.manage.Order.{Order}
 use Rattle.rules.specs.declared.manage.Order.TheVariants.{AbortTask, AbortTaskSet, ClearTaskSet, ClearAca, UnitReset, TargetReset}
+use Rattle.plan.specs.declared.Request.{Request}
 use Rattle.plan.specs.declared.Request.TheVariants.{Command, Manage, Confirm}
 use Rattle.plan.specs.declared.Asked.{Asked}
-use Rattle.plan.specs.declared.Asked.TheVariants.{By, Unread}
 use Rattle.plan.specs.declared.Answer.{Answer}
 use Rattle.plan.specs.declared.Answer.TheVariants as answer
 use Rattle.engine.specs.declared.Outcome.{Outcome}
@@ -35,7 +36,7 @@ abbrev pub Drive : Type 0
 Drive = Event → Table → Outcome
 
 -- the reply buffer as it is left after an event that was answered so; a start and a total reset have none
-unfoldable pub left_after : Event → Answer → List ℕ
+unfoldable pub left_after : Event → Result Answer Refusal → List ℕ
 left_after (Message m buf) a = replied a buf
 left_after (Start unit) a = []
 left_after (Finish arrival status sense transferred buf) a = replied a buf
@@ -83,14 +84,17 @@ aborts_by_tag o (ClearAca lun) = o
 aborts_by_tag o (UnitReset lun) = o
 aborts_by_tag o TargetReset = o
 
-abbrev pub asks_by_tag : Outcome → Asked → Outcome
-asks_by_tag o (Unread n) = o
-asks_by_tag o (By path tag (Command lun flags)) = o
-asks_by_tag o (By path tag (Manage order)) = aborts_by_tag o order
-asks_by_tag o (By path tag (Confirm offset complete)) = o
+abbrev pub requests_by_tag : Outcome → Request → Outcome
+requests_by_tag o (Command lun flags) = o
+requests_by_tag o (Manage order) = aborts_by_tag o order
+requests_by_tag o (Confirm offset complete) = o
+
+abbrev pub asks_by_tag : Outcome → Result Asked Refusal → Outcome
+asks_by_tag o (Err n) = o
+asks_by_tag o (Ok a) = requests_by_tag o a.request
 
 unfoldable pub goes_by_tag : Drive
-goes_by_tag (Message m buf) t = asks_by_tag (message_of t m (length buf)) (asked_of (read_of m))
+goes_by_tag (Message m buf) t = asks_by_tag (message_of t m (length buf)) (asked_in (read_of m))
 goes_by_tag (Start unit) t = engine (Start unit) t
 goes_by_tag (Finish arrival status sense transferred buf) t = engine (Finish arrival status sense transferred buf) t
 goes_by_tag TotalReset t = engine TotalReset t
@@ -109,7 +113,7 @@ numbers_anew TotalReset t = with_table (total_reset_of t) (from_one (total_reset
 unfoldable pub finishes_all : Drive
 finishes_all (Message m buf) t = engine (Message m buf) t
 finishes_all (Start unit) t = engine (Start unit) t
-finishes_all (Finish arrival status sense transferred buf) t = out (finish_of t arrival status sense transferred (length buf)).table (answer.Reply (reply.Status 0 status sense)) 0
+finishes_all (Finish arrival status sense transferred buf) t = out (finish_of t arrival status sense transferred (length buf)).table (Ok (answer.Reply (reply.Status 0 status sense))) 0
 finishes_all TotalReset t = engine TotalReset t
 
 -- a start loses the tasks
@@ -191,12 +195,12 @@ pub record Echoing : Type 0 where
   pub miscounts : (d : Remembering) → Echoes d → (ids : List ℕ) (attached first : ℕ) (ev : Event) (rest more : List Event) → first < 2 ^ 64
       → (open_after d ids (setup_of ids attached first).table (ev ∷ rest) ≡ open_after d ids (setup_of ids attached first).table (ev ∷ more) → ⊥) → Meets d → ⊥
   pub meets : (d : Remembering) → Echoes d
-      → ((x : Told) (h : List Told) (ev : Event) (t : Table) → (n : Refusal) × ((d (x ∷ h) ev t).answer ≡ answer.Refused n)) → Meets d
+      → ((x : Told) (h : List Told) (ev : Event) (t : Table) → (n : Refusal) × ((d (x ∷ h) ev t).answer ≡ Err n)) → Meets d
 
 -- ---- what demand 3 alone does not refuse: a drive that refuses every call. Demand 2 does, at example c.
 
 unfoldable pub refuses_all : Drive
-refuses_all ev t = out t (answer.Refused Codes.not_handled) 0
+refuses_all ev t = out t (Err Codes.not_handled) 0
 
 abbrev pub RefusingMeets : Type 0
 RefusingMeets = Demand3 (ByDrive refuses_all)

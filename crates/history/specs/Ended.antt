@@ -1,5 +1,6 @@
 -- What a call says that it ended, beside the trace: the maps `ended` and `stops` of an outcome, and the fates of the
 -- commands in the table that was handed in. Proved in proofs/Ended.antt, the sums in proofs/Summed.antt.
+use Rattle.std.specs.Prelude.{Ok}
 use Rattle.std.specs.Prelude.{ℕ, zero, suc, ◌+◌, ◌<◌, ◌^◌, ◌≡◌, Bool, true, false, ◌&&◌, List, [], ◌∷◌, length, get_or, eqb}
 use Rattle.std.proofs.Math.Option.{some}
 use Rattle.wire.specs.Messages.{read_of}
@@ -11,9 +12,8 @@ use Rattle.table.specs.Tables.{task_at, path_at, path_of}
 use Rattle.table.specs.View.{at, live_of}
 use Rattle.sound.specs.Promises.{Good}
 use Rattle.table.specs.declared.Table.{Table}
-use Rattle.plan.specs.Plans.{asked_of}
+use Rattle.plan.specs.Plans.{asking, asked_in}
 use Rattle.plan.specs.declared.Request.{Request}
-use Rattle.plan.specs.declared.Asked.TheVariants.{By}
 use Rattle.engine.specs.Calls.{SetupContract}
 use Rattle.engine.specs.Promises.{EndsNothing}
 use Rattle.engine.specs.declared.Outcome.{Outcome}
@@ -99,7 +99,7 @@ pub record StopsIsExact (C : Contract) : Type 0 where
 
 abbrev pub EndedAreItsOwn : Contract → Type 0
 EndedAreItsOwn C = (m buf : List ℕ) (t : Table) (o : Outcome) (left : List ℕ) (path tag : ℕ) (w : Request)
-    → Made C (Message m buf) t o left → asked_of (read_of m) ≡ By path tag w → may_reach_others w ≡ false
+    → Made C (Message m buf) t o left → asked_in (read_of m) ≡ Ok (asking path tag w) → may_reach_others w ≡ false
     → (i : ℕ) (a : Task) → is_live o.ended i ≡ true → at t i ≡ some a → a.path ≡ path_of t path
 
 -- the four, of the contracts of a drive's calls

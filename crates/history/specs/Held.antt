@@ -1,9 +1,12 @@
 -- M-103, over any calls: while a unit has ACA, no start there takes anything but the ACA task, so that what waits behind
 -- a bad command is not executed. Proved in proofs/Held.antt; on the trace alone in proofs/HeldTrace.antt.
+use Rattle.std.specs.Prelude.{Result, Ok, Err}
 use Rattle.std.specs.Prelude.{ℕ, zero, suc, ◌<◌, ◌^◌, ◌≡◌, Bool, true, false, ◌&&◌, List, [], ◌∷◌, ◌++◌, map, take, eqb}
 use Rattle.std.proofs.Math.Option.{Option, none, some}
+use Rattle.wire.specs.declared.codes.Refusal.{Refusal}
 use Rattle.wire.specs.Codes
 use Rattle.wire.specs.Messages.{read_of}
+use Rattle.wire.specs.declared.codes.Kind.TheVariants as kind
 use Rattle.wire.specs.declared.message.Flags.{Flags}
 use Rattle.reply.specs.declared.Reply.{Reply}
 use Rattle.reply.specs.declared.Reply.TheVariants as reply
@@ -16,10 +19,10 @@ use Rattle.table.specs.declared.Table.{Table}
 use Rattle.sound.specs.Promises.{Good}
 use Rattle.rules.specs.declared.manage.Order.{Order}
 use Rattle.rules.specs.declared.manage.Order.TheVariants.{AbortTask, AbortTaskSet, ClearTaskSet, ClearAca, UnitReset, TargetReset}
-use Rattle.plan.specs.Plans.{asked_of, reply_of}
+use Rattle.plan.specs.Plans.{asking, asked_in, reply_of}
+use Rattle.plan.specs.declared.Request.{Request}
 use Rattle.plan.specs.declared.Request.TheVariants.{Command, Manage, Confirm}
 use Rattle.plan.specs.declared.Asked.{Asked}
-use Rattle.plan.specs.declared.Asked.TheVariants.{By, Unread}
 use Rattle.plan.specs.declared.Answer.{Answer}
 use Rattle.plan.specs.declared.Answer.TheVariants as answer
 use Rattle.engine.specs.Calls.{SetupContract}
@@ -42,11 +45,14 @@ order_releases p unit sender (ClearAca lun) = eqb lun unit && eqb sender p
 order_releases p unit sender (UnitReset lun) = eqb lun unit
 order_releases p unit sender TargetReset = true
 
-abbrev pub ask_releases : List ℕ → ℕ → ℕ → Asked → Bool
-ask_releases ids p unit (Unread n) = false
-ask_releases ids p unit (By path tag (Command lun flags)) = false
-ask_releases ids p unit (By path tag (Manage o)) = order_releases p unit (place_in ids path) o
-ask_releases ids p unit (By path tag (Confirm offset complete)) = false
+abbrev pub request_releases : ℕ → ℕ → ℕ → Request → Bool
+request_releases p unit sender (Command lun flags) = false
+request_releases p unit sender (Manage o) = order_releases p unit sender o
+request_releases p unit sender (Confirm offset complete) = false
+
+abbrev pub ask_releases : List ℕ → ℕ → ℕ → Result Asked Refusal → Bool
+ask_releases ids p unit (Err n) = false
+ask_releases ids p unit (Ok a) = request_releases p unit (place_in ids a.path) a.request
 
 abbrev pub is_done : Option Reply → Bool
 is_done none = false
@@ -55,19 +61,19 @@ is_done (some (reply.Status tag status sense)) = false
 is_done (some (reply.Invalid tag)) = false
 
 -- and a total reset that is answered by `reset`
-abbrev pub says_reset : Answer → Bool
-says_reset answer.Ready = false
-says_reset (answer.Accepted n) = false
-says_reset (answer.Reply r) = false
-says_reset (answer.Started offset n) = false
-says_reset (answer.Confirmed n) = false
-says_reset (answer.Restarted n) = false
-says_reset answer.Reset = true
-says_reset (answer.Refused n) = false
+abbrev pub says_reset : Result Answer Refusal → Bool
+says_reset (Ok answer.Ready) = false
+says_reset (Ok (answer.Accepted n)) = false
+says_reset (Ok (answer.Reply r)) = false
+says_reset (Ok (answer.Started offset n)) = false
+says_reset (Ok (answer.Confirmed n)) = false
+says_reset (Ok (answer.Restarted n)) = false
+says_reset (Ok answer.Reset) = true
+says_reset (Err n) = false
 
 -- ids are those that setup was given. Where the event is none of these four, it is false whatever the answer
-abbrev pub releases : List ℕ → ℕ → ℕ → Event → Answer → Bool
-releases ids p unit (Message m buf) a = ask_releases ids p unit (asked_of (read_of m)) && is_done (reply_of a)
+abbrev pub releases : List ℕ → ℕ → ℕ → Event → Result Answer Refusal → Bool
+releases ids p unit (Message m buf) a = ask_releases ids p unit (asked_in (read_of m)) && is_done (reply_of a)
 releases ids p unit (Start u) a = false
 releases ids p unit (Finish arrival status sense transferred buf) a = false
 releases ids p unit TotalReset a = says_reset a
@@ -101,7 +107,7 @@ pub record StaysHeld (t : Table) (cs : List Call) (p unit : ℕ) : Type 0 where
   -- the unit has that ACA still, whatever failed there meanwhile
   pub held : aca_at (last_table t cs).units unit ≡ Owned p
   -- each start there that was not refused took the ACA task, the owner's
-  pub starts : (k : ℕ) (c : Call) (offset arrival : ℕ) → nth cs k ≡ some c → c.event ≡ Start unit → c.outcome.answer ≡ answer.Started offset arrival
+  pub starts : (k : ℕ) (c : Call) (offset arrival : ℕ) → nth cs k ≡ some c → c.event ≡ Start unit → c.outcome.answer ≡ Ok (answer.Started offset arrival)
       → (i : ℕ) × (a : Task) × AcaTask (given t cs k) p unit i a × (a.arrival ≡ arrival)
   -- what runs there after the calls, and is not the ACA task, ran there when they began: what waited then, and what came
   -- since, is not executed. The calls may be any, so this holds after each of them
@@ -133,7 +139,7 @@ pub record BadOnTrace (ids : List ℕ) (attached : ℕ) (c : Call) (p lun : ℕ)
   pub tag : ℕ
   pub flags : Flags
   pub event : c.event ≡ Message m buf
-  pub asks : asked_of (read_of m) ≡ By path tag (Command lun flags)
+  pub asks : asked_in (read_of m) ≡ Ok (asking path tag (Command lun flags))
   pub sender : place_in ids path ≡ p
   pub says : says02 c.outcome.answer ≡ true
   pub there : bit_of attached lun ≡ true
@@ -155,7 +161,7 @@ pub record GivenToAca (ids : List ℕ) (h : List Told) (n p unit : ℕ) : Type 0
 abbrev pub HeldOnTrace : Type 0
 HeldOnTrace = (ids : List ℕ) (attached first : ℕ) (o : Outcome) (cs : List Call) (c : Call) (ds : List Call) (p lun : ℕ) → first < 2 ^ 64 → attached < 2 ^ 8
     → SetupContract ids attached first o → Chained Engine o.table (cs ++ (c ∷ ds)) → BadOnTrace ids attached c p lun → NoneReleases ids p lun ds
-    → (k : ℕ) (d : Call) (offset n : ℕ) → nth ds k ≡ some d → d.event ≡ Start lun → d.outcome.answer ≡ answer.Started offset n
+    → (k : ℕ) (d : Call) (offset n : ℕ) → nth ds k ≡ some d → d.event ≡ Start lun → d.outcome.answer ≡ Ok (answer.Started offset n)
     → GivenToAca ids (told (cs ++ (c ∷ take k ds))) n p lun
 
 -- ---- the premises can be met
@@ -177,7 +183,7 @@ abbrev pub bad_outcome : Outcome
 bad_outcome = engine (Message bad_bytes buffer) waiting_table
 
 abbrev pub simple : Flags
-simple = record { ddrm = false; oot = false; resume = false; confirm = false; queue = Codes.queue_simple }
+simple = record { ddrm = false; oot = false; resume = false; confirm = false; queue = kind.Simple }
 
 -- behind it host 1's next write, host 2's, a start, and CLEAR ACA from host 2, which does not own the ACA; then what the
 -- example has not: an ACA command of host 1, a start, and its finish with 02h
@@ -190,7 +196,7 @@ abbrev pub calls_behind : List Call
 calls_behind = calls_of engine bad_outcome.table events_behind
 
 -- the answers to some events
-abbrev pub answers_of : Table → List Event → List Answer
+abbrev pub answers_of : Table → List Event → List (Result Answer Refusal)
 answers_of t evs = map (λ (c : Call). c.outcome.answer) (calls_of engine t evs)
 
 pub record SomeAreHeld : Type 0 where
@@ -201,7 +207,7 @@ pub record SomeAreHeld : Type 0 where
   pub free : NoneReleases hosts 0 0 calls_behind
   pub stays : StaysHeld bad_outcome.table calls_behind 0 0
   pub answers : answers_of bad_outcome.table events_behind
-      ≡ answer.Reply (reply.Status 3 Codes.aca_active Codes.no_sense) ∷ answer.Reply (reply.Status 1 Codes.aca_active Codes.no_sense) ∷ answer.Refused Codes.nothing_to_start
-      ∷ answer.Reply (reply.Response 5 Codes.no_aca) ∷ answer.Accepted 2 ∷ answer.Started 0 2 ∷ answer.Reply (reply.Status 6 Codes.check_condition Codes.no_sense) ∷ []
+      ≡ (Ok (answer.Reply (reply.Status 3 Codes.aca_active Codes.no_sense))) ∷ (Ok (answer.Reply (reply.Status 1 Codes.aca_active Codes.no_sense))) ∷ (Err Codes.nothing_to_start)
+      ∷ (Ok (answer.Reply (reply.Response 5 Codes.no_aca))) ∷ (Ok (answer.Accepted 2)) ∷ (Ok (answer.Started 0 2)) ∷ (Ok (answer.Reply (reply.Status 6 Codes.check_condition Codes.no_sense))) ∷ []
   -- host 1's CLEAR ACA then has its first write started
-  pub cleared : answers_of (last_table bad_outcome.table calls_behind) (clear_aca 1 5 ∷ Start 0 ∷ []) ≡ answer.Reply (reply.Response 5 Codes.done) ∷ answer.Started 0 1 ∷ []
+  pub cleared : answers_of (last_table bad_outcome.table calls_behind) (clear_aca 1 5 ∷ Start 0 ∷ []) ≡ (Ok (answer.Reply (reply.Response 5 Codes.done))) ∷ (Ok (answer.Started 0 1)) ∷ []

@@ -1,5 +1,7 @@
 -- Drives that do what the engine does and say wrongly what they ended: each hands back the engine's outcome with one of
 -- the two maps wrong. Proved in proofs/Sayings.antt.
+use Rattle.std.specs.Prelude.{Result, Ok, Err}
+use Rattle.wire.specs.declared.codes.Refusal.{Refusal}
 use Rattle.std.specs.Prelude.{ℕ, ◌+◌, ◌&&◌, eqb}
 use Rattle.std.proofs.Math.Option.{Option, none, some}
 use Rattle.wire.specs.Messages.{read_of}
@@ -13,10 +15,10 @@ use Rattle.table.specs.Steps.{running_among}
 use Rattle.table.specs.declared.Table.{Table}
 use Rattle.rules.specs.declared.manage.Order.{Order}
 use Rattle.rules.specs.declared.manage.Order.TheVariants.{AbortTask, AbortTaskSet, ClearTaskSet, ClearAca, UnitReset, TargetReset}
-use Rattle.plan.specs.Plans.{asked_of, reply_of}
+use Rattle.plan.specs.Plans.{asking, asked_in, reply_of}
+use Rattle.plan.specs.declared.Request.{Request}
 use Rattle.plan.specs.declared.Request.TheVariants.{Command, Manage, Confirm}
 use Rattle.plan.specs.declared.Asked.{Asked}
-use Rattle.plan.specs.declared.Asked.TheVariants.{By, Unread}
 use Rattle.engine.specs.declared.Outcome.{Outcome}
 use Rattle.history.specs.Trace.{Message, Start, Finish, TotalReset}
 use Rattle.history.specs.Drives.{Drive, ByDrive, engine}
@@ -66,14 +68,17 @@ clears_own t path o (ClearAca lun) = o
 clears_own t path o (UnitReset lun) = o
 clears_own t path o TargetReset = o
 
-abbrev pub asks_own : Table → Outcome → Asked → Outcome
-asks_own t o (Unread n) = o
-asks_own t o (By path tag (Command lun flags)) = o
-asks_own t o (By path tag (Manage order)) = clears_own t path o order
-asks_own t o (By path tag (Confirm offset complete)) = o
+abbrev pub requests_own : Table → Outcome → ℕ → Request → Outcome
+requests_own t o path (Command lun flags) = o
+requests_own t o path (Manage order) = clears_own t path o order
+requests_own t o path (Confirm offset complete) = o
+
+abbrev pub asks_own : Table → Outcome → Result Asked Refusal → Outcome
+asks_own t o (Err n) = o
+asks_own t o (Ok a) = requests_own t o a.path a.request
 
 unfoldable pub names_own_alone : Drive
-names_own_alone (Message m buf) t = asks_own t (engine (Message m buf) t) (asked_of (read_of m))
+names_own_alone (Message m buf) t = asks_own t (engine (Message m buf) t) (asked_in (read_of m))
 names_own_alone (Start unit) t = engine (Start unit) t
 names_own_alone (Finish arrival status sense transferred buf) t = engine (Finish arrival status sense transferred buf) t
 names_own_alone TotalReset t = engine TotalReset t

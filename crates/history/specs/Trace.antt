@@ -1,7 +1,9 @@
 -- What a trace shows: the events in their order, each with what was asked and what was answered, and what an event so
 -- answered does to the commands. No table is looked at.
+use Rattle.std.specs.Prelude.{Result, Ok, Err}
 use Rattle.std.specs.Prelude.{ℕ, zero, suc, Bool, true, false, cond, List, [], ◌∷◌, length, get_or, eqb}
 use Rattle.std.proofs.Math.Option.{Option, none, some}
+use Rattle.wire.specs.declared.codes.Refusal.{Refusal}
 use Rattle.wire.specs.Codes
 use Rattle.wire.specs.Messages.{read_of}
 use Rattle.wire.specs.declared.codes.StatusByte.{StatusByte}
@@ -16,12 +18,12 @@ use Rattle.task.specs.declared.Sequel.{Sequel}
 use Rattle.task.specs.declared.Task.{Task}
 use Rattle.task.specs.declared.select.Selection.{Selection}
 use Rattle.rules.specs.Management.{ends_of}
-use Rattle.plan.specs.Plans.{asked_of, kind_of, sequel_of, reply_of}
+use Rattle.plan.specs.Plans.{asking, asked_in, sequel_of, reply_of}
 use Rattle.rules.specs.declared.manage.Order.{Order}
 use Rattle.rules.specs.declared.manage.Order.TheVariants.{AbortTask, AbortTaskSet, ClearTaskSet, ClearAca, UnitReset, TargetReset}
+use Rattle.plan.specs.declared.Request.{Request}
 use Rattle.plan.specs.declared.Request.TheVariants.{Command, Manage, Confirm}
 use Rattle.plan.specs.declared.Asked.{Asked}
-use Rattle.plan.specs.declared.Asked.TheVariants.{By, Unread}
 use Rattle.plan.specs.declared.Answer.{Answer}
 use Rattle.plan.specs.declared.Answer.TheVariants as answer
 
@@ -37,7 +39,7 @@ pub data Event : Type 0 where
 -- an event and what was answered
 pub record Told : Type 0 where
   pub event : Event
-  pub answer : Answer
+  pub answer : Result Answer Refusal
 
 module _ {A : Type 0} where
   -- the element at a place of a list, counted from 0
@@ -115,15 +117,15 @@ unfoldable pub place_in : List ℕ → ℕ → ℕ
 place_in ids id = first (length ids) (λ p. eqb (get_or ids p 0) id)
 
 -- a command from the path at p is accepted where the answer says so, under the number that the answer names
-abbrev pub command_effect : ℕ → ℕ → ℕ → Kind → Sequel → Answer → Effect
-command_effect p tag lun kind sequel answer.Ready = Nothing
-command_effect p tag lun kind sequel (answer.Accepted n) = Accepts (accepted_as n p tag lun kind sequel)
-command_effect p tag lun kind sequel (answer.Reply r) = Nothing
-command_effect p tag lun kind sequel (answer.Started offset n) = Nothing
-command_effect p tag lun kind sequel (answer.Confirmed n) = Nothing
-command_effect p tag lun kind sequel (answer.Restarted n) = Nothing
-command_effect p tag lun kind sequel answer.Reset = Nothing
-command_effect p tag lun kind sequel (answer.Refused n) = Nothing
+abbrev pub command_effect : ℕ → ℕ → ℕ → Kind → Sequel → Result Answer Refusal → Effect
+command_effect p tag lun kind sequel (Ok answer.Ready) = Nothing
+command_effect p tag lun kind sequel (Ok (answer.Accepted n)) = Accepts (accepted_as n p tag lun kind sequel)
+command_effect p tag lun kind sequel (Ok (answer.Reply r)) = Nothing
+command_effect p tag lun kind sequel (Ok (answer.Started offset n)) = Nothing
+command_effect p tag lun kind sequel (Ok (answer.Confirmed n)) = Nothing
+command_effect p tag lun kind sequel (Ok (answer.Restarted n)) = Nothing
+command_effect p tag lun kind sequel (Ok answer.Reset) = Nothing
+command_effect p tag lun kind sequel (Err n) = Nothing
 
 -- an order ends what it selects where it is answered by RESPONSE 00h
 abbrev pub order_replied : ℕ → Order → Option Reply → Effect
@@ -132,37 +134,41 @@ order_replied p o (some (reply.Response t code)) = cond (eqb code.0 (Codes.done)
 order_replied p o (some (reply.Status t status sense)) = Nothing
 order_replied p o (some (reply.Invalid t)) = Nothing
 
-abbrev pub order_effect : ℕ → Order → Answer → Effect
+abbrev pub order_effect : ℕ → Order → Result Answer Refusal → Effect
 order_effect p o a = order_replied p o (reply_of a)
 
 -- CONFIRM STATUS from the path at p names its command by the tag and the number in the answer: with COMPLETE set
 -- `confirmed` ends it, with COMPLETE clear `restarted` has it wait again at the offset
-abbrev pub confirm_effect : ℕ → ℕ → ℕ → Bool → Answer → Effect
-confirm_effect p tag offset complete answer.Ready = Nothing
-confirm_effect p tag offset complete (answer.Accepted n) = Nothing
-confirm_effect p tag offset complete (answer.Reply r) = Nothing
-confirm_effect p tag offset complete (answer.Started o n) = Nothing
-confirm_effect p tag offset complete (answer.Confirmed n) = cond complete (Ends (numbered_as n p tag) by_status) Nothing
-confirm_effect p tag offset complete (answer.Restarted n) = cond complete Nothing (Restarts (numbered_as n p tag) offset)
-confirm_effect p tag offset complete answer.Reset = Nothing
-confirm_effect p tag offset complete (answer.Refused n) = Nothing
+abbrev pub confirm_effect : ℕ → ℕ → ℕ → Bool → Result Answer Refusal → Effect
+confirm_effect p tag offset complete (Ok answer.Ready) = Nothing
+confirm_effect p tag offset complete (Ok (answer.Accepted n)) = Nothing
+confirm_effect p tag offset complete (Ok (answer.Reply r)) = Nothing
+confirm_effect p tag offset complete (Ok (answer.Started o n)) = Nothing
+confirm_effect p tag offset complete (Ok (answer.Confirmed n)) = cond complete (Ends (numbered_as n p tag) by_status) Nothing
+confirm_effect p tag offset complete (Ok (answer.Restarted n)) = cond complete Nothing (Restarts (numbered_as n p tag) offset)
+confirm_effect p tag offset complete (Ok answer.Reset) = Nothing
+confirm_effect p tag offset complete (Err n) = Nothing
 
-abbrev pub message_effect : List ℕ → Asked → Answer → Effect
-message_effect ids (Unread n) a = Nothing
-message_effect ids (By path tag (Command lun flags)) a = command_effect (place_in ids path) tag lun (kind_of flags.queue) (sequel_of flags.confirm) a
-message_effect ids (By path tag (Manage o)) a = order_effect (place_in ids path) o a
-message_effect ids (By path tag (Confirm offset complete)) a = confirm_effect (place_in ids path) tag offset complete a
+-- what the path at p asks with a tag
+abbrev pub request_effect : ℕ → ℕ → Request → Result Answer Refusal → Effect
+request_effect p tag (Command lun flags) a = command_effect p tag lun flags.queue (sequel_of flags.confirm) a
+request_effect p tag (Manage o) a = order_effect p o a
+request_effect p tag (Confirm offset complete) a = confirm_effect p tag offset complete a
+
+abbrev pub message_effect : List ℕ → Result Asked Refusal → Result Answer Refusal → Effect
+message_effect ids (Err n) a = Nothing
+message_effect ids (Ok b) a = request_effect (place_in ids b.path) b.tag b.request a
 
 -- a start starts the command whose number the answer names
-abbrev pub start_effect : Answer → Effect
-start_effect answer.Ready = Nothing
-start_effect (answer.Accepted n) = Nothing
-start_effect (answer.Reply r) = Nothing
-start_effect (answer.Started offset n) = Starts n
-start_effect (answer.Confirmed n) = Nothing
-start_effect (answer.Restarted n) = Nothing
-start_effect answer.Reset = Nothing
-start_effect (answer.Refused n) = Nothing
+abbrev pub start_effect : Result Answer Refusal → Effect
+start_effect (Ok answer.Ready) = Nothing
+start_effect (Ok (answer.Accepted n)) = Nothing
+start_effect (Ok (answer.Reply r)) = Nothing
+start_effect (Ok (answer.Started offset n)) = Starts n
+start_effect (Ok (answer.Confirmed n)) = Nothing
+start_effect (Ok (answer.Restarted n)) = Nothing
+start_effect (Ok answer.Reset) = Nothing
+start_effect (Err n) = Nothing
 
 -- a finish that is answered by a STATUS finishes the command with the number that it names. The engine answers so
 -- where that command runs; the trace takes the STATUS at its word
@@ -172,23 +178,23 @@ finish_replied arrival transferred (some (reply.Response t code)) = Nothing
 finish_replied arrival transferred (some (reply.Status t status sense)) = Finishes arrival transferred
 finish_replied arrival transferred (some (reply.Invalid t)) = Nothing
 
-abbrev pub finish_effect : ℕ → ℕ → Answer → Effect
+abbrev pub finish_effect : ℕ → ℕ → Result Answer Refusal → Effect
 finish_effect arrival transferred a = finish_replied arrival transferred (reply_of a)
 
 -- a total reset that is answered by `reset` ends every command
-abbrev pub reset_effect : Answer → Effect
-reset_effect answer.Ready = Nothing
-reset_effect (answer.Accepted n) = Nothing
-reset_effect (answer.Reply r) = Nothing
-reset_effect (answer.Started offset n) = Nothing
-reset_effect (answer.Confirmed n) = Nothing
-reset_effect (answer.Restarted n) = Nothing
-reset_effect answer.Reset = Ends every_task byTotalReset
-reset_effect (answer.Refused n) = Nothing
+abbrev pub reset_effect : Result Answer Refusal → Effect
+reset_effect (Ok answer.Ready) = Nothing
+reset_effect (Ok (answer.Accepted n)) = Nothing
+reset_effect (Ok (answer.Reply r)) = Nothing
+reset_effect (Ok (answer.Started offset n)) = Nothing
+reset_effect (Ok (answer.Confirmed n)) = Nothing
+reset_effect (Ok (answer.Restarted n)) = Nothing
+reset_effect (Ok answer.Reset) = Ends every_task byTotalReset
+reset_effect (Err n) = Nothing
 
 -- ids are those that setup was given
-abbrev pub effect_of : List ℕ → Event → Answer → Effect
-effect_of ids (Message m buf) a = message_effect ids (asked_of (read_of m)) a
+abbrev pub effect_of : List ℕ → Event → Result Answer Refusal → Effect
+effect_of ids (Message m buf) a = message_effect ids (asked_in (read_of m)) a
 effect_of ids (Start unit) a = start_effect a
 effect_of ids (Finish arrival status sense transferred buf) a = finish_effect arrival transferred a
 effect_of ids TotalReset a = reset_effect a

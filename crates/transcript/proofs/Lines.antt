@@ -1,5 +1,6 @@
 -- A line in the making: bytes put in order, the digits of a number, what each answer says.
 -- Assumes nothing.
+use Rattle.std.specs.Prelude.{Result}
 use Prim.Native.Nat.{ℕ, zero, suc, ◌+◌, ◌/◌, ◌%◌, ◌^◌, ◌≤◌, ◌<◌, min}
 use Rattle.std.proofs.Math.Nat.{min-eq_left}
 use mathlib.Core.Path.{◌≡◌, refl, ap, sym, ◌∙◌}
@@ -12,6 +13,7 @@ use native.Mathlib.Nat.{pow-suc, div-lt_iff_lt-mul}
 use native.Mathlib.Numerals.{add-one}
 use native.Mathlib.Omega.{arith}
 use borrow.Author.Tests.{lt-ltb, le-ltb}
+use Rattle.wire.specs.declared.codes.Refusal.{Refusal}
 use Rattle.reply.specs.declared.Reply.{Reply}
 use Rattle.plan.specs.declared.Answer.{Answer}
 use Rattle.transcript.specs.Lines
@@ -97,7 +99,7 @@ three_texts l a b c p q e = two_texts l a (b ++ c) p (two_texts _ b c q e)
 
 -- ---- what an answer or a reply says: the text of the value that a match found, and such a text in two parts
 
-pub says_answer : (l : Line) {a b : Answer} {r : Line} → a ≡ b → r ≡ push_all l (answer_text b) → r ≡ push_all l (answer_text a)
+pub says_answer : (l : Line) {a b : Result Answer Refusal} {r : Line} → a ≡ b → r ≡ push_all l (answer_text b) → r ≡ push_all l (answer_text a)
 says_answer l e p = rw e p
 
 module _ (l : Line) {a : Reply} where
@@ -113,7 +115,7 @@ pub ruleset reply_cases = (says_both, says_reply)
 
 module _ {e : Line} (h : e ≡ Lines.empty_line) where
   pub event_text :
-      (n : ℕ) (a : Answer) {m k r : Line} → m ≡ push_all e (decimal_of n) → k ≡ push_all m (answer_text a)
+      (n : ℕ) (a : Result Answer Refusal) {m k r : Line} → m ≡ push_all e (decimal_of n) → k ≡ push_all m (answer_text a)
       → r ≡ push_all k (Lines.newline ∷ []) → r ≡ push_all Lines.empty_line (Lines.line_of n a)
   event_text n a p q s = three_texts Lines.empty_line (decimal_of n) (answer_text a) (Lines.newline ∷ []) (rw h at p) q s
 

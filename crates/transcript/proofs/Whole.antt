@@ -1,5 +1,6 @@
 -- Every line fits its 64 bytes, so what is written of it is the whole line, and the whole line is left in a buffer of
 -- 64 bytes or more. Assumes nothing.
+use Rattle.std.specs.Prelude.{Result, Ok, Err}
 use Prim.Native.Nat.{ℕ, zero, suc, ◌+◌, ◌/◌, ◌≤◌, ◌<◌, zero-le}
 use mathlib.Core.Path.{◌≡◌, refl, sym, subst, ◌∙◌}
 use mathlib.Core.Bool.{Bool, true, false, cond}
@@ -11,13 +12,14 @@ use native.Mathlib.Nat.{add-zero, zero-add}
 use native.Mathlib.Numerals.{add-one}
 use native.Mathlib.Omega.{arith}
 use borrow.Author.Tests.{lt-ltb, le-ltb}
+use Rattle.wire.specs.declared.codes.Refusal.{Refusal}
 use Rattle.task.specs.Map.{live_count}
 use Rattle.wire.proofs.Table.{cond_ind}
 use Rattle.plan.specs.declared.Answer.{Answer}
 use Rattle.reply.specs.declared.Reply.{Reply}
 use Rattle.reply.specs.declared.Reply.TheVariants.{Response, Status, Invalid}
 use Rattle.plan.specs.declared.Answer.TheVariants as answer
-use Rattle.plan.specs.declared.Answer.TheVariants.{Ready, Accepted, Started, Confirmed, Restarted, Reset, Refused}
+use Rattle.plan.specs.declared.Answer.TheVariants.{Ready, Accepted, Started, Confirmed, Restarted, Reset}
 use Rattle.transcript.specs.Lines.{empty_line, pushed, push_all, decimal_in, reply_text, answer_text, line_of, handed_of, handed_in, Handed}
 use Rattle.transcript.specs.Playing.{turned, turn_text, step_of, line_left, Advances, last_text, last_line}
 use Rattle.transcript.specs.Promises.{Fits, Leaves}
@@ -63,21 +65,21 @@ reply_short (Response tag code) = omega arith
 reply_short (Status tag status sense) = omega arith
 reply_short (Invalid tag) = omega arith
 
-text_short : (a : Answer) → length (answer_text a) ≤ 31
+text_short : (a : Result Answer Refusal) → length (answer_text a) ≤ 31
 unfolding answer_text
-text_short Ready = omega arith
-text_short (Accepted n) = omega (arith, decimal_short 20 n)
-text_short (answer.Reply r) = reply_short r
-text_short (Started offset arrival) = omega (arith, decimal_short 20 arrival)
-text_short (Confirmed n) = omega (arith, decimal_short 20 n)
-text_short (Restarted n) = omega (arith, decimal_short 20 n)
-text_short Reset = omega arith
-text_short (Refused n) = omega (arith, decimal_short 20 n.0)
+text_short (Ok Ready) = omega arith
+text_short (Ok (Accepted n)) = omega (arith, decimal_short 20 n)
+text_short (Ok (answer.Reply r)) = reply_short r
+text_short (Ok (Started offset arrival)) = omega (arith, decimal_short 20 arrival)
+text_short (Ok (Confirmed n)) = omega (arith, decimal_short 20 n)
+text_short (Ok (Restarted n)) = omega (arith, decimal_short 20 n)
+text_short (Ok Reset) = omega arith
+text_short (Err n) = omega (arith, decimal_short 20 n.0)
 
-line_short : (n : ℕ) (a : Answer) → length (line_of n a) ≤ 64
+line_short : (n : ℕ) (a : Result Answer Refusal) → length (line_of n a) ≤ 64
 line_short n a = simp length-append (omega (arith, decimal_short 20 n, text_short a))
 
-pub line_whole : (n : ℕ) (a : Answer) → Fits (line_of n a)
+pub line_whole : (n : ℕ) (a : Result Answer Refusal) → Fits (line_of n a)
 line_whole n a = whole (line_of n a) (line_short n a)
 
 last_short : (p : Player) → length (last_text p) ≤ 64

@@ -1,14 +1,16 @@
 -- The lines of a transcript: the event's number in decimal, then a word and its numbers. Tags are four upper-case hex
 -- digits, codes and status fields two.
+use Rattle.std.specs.Prelude.{Result, Ok, Err}
 use Rattle.std.specs.Prelude.{ℕ, zero, suc, ◌+◌, ◌/◌, ◌%◌, List, [], ◌∷◌, ◌++◌, ◌≡◌, cond, ◌||◌, length, set, replicate, take, drop, ltb}
 use Prim.Native.Char.{code}
 use Prim.Native.String.{String, [] as ended, ◌∷◌ as ◌then◌}
+use Rattle.wire.specs.declared.codes.Refusal.{Refusal}
 use Rattle.wire.specs.declared.codes.Sense.{Sense}
 use Rattle.reply.specs.declared.Reply.{Reply}
 use Rattle.reply.specs.declared.Reply.TheVariants.{Response, Status, Invalid}
 use Rattle.plan.specs.declared.Answer.{Answer}
 use Rattle.plan.specs.declared.Answer.TheVariants as answer
-use Rattle.plan.specs.declared.Answer.TheVariants.{Ready, Accepted, Started, Confirmed, Restarted, Reset, Refused}
+use Rattle.plan.specs.declared.Answer.TheVariants.{Ready, Accepted, Started, Confirmed, Restarted, Reset}
 use Rattle.transcript.specs.declared.line.Line.{Line}
 
 -- ---- words
@@ -95,18 +97,18 @@ reply_text (Status tag status sense) = status_word ++ (hex_word tag ++ (hex_of s
 reply_text (Invalid tag) = invalid_word ++ hex_word tag
 
 -- what stands behind the event's number
-unfoldable pub answer_text : Answer → List ℕ
-answer_text Ready = []
-answer_text (Accepted n) = accepted_word ++ decimal_of n
-answer_text (answer.Reply r) = reply_text r
-answer_text (Started offset arrival) = started_word ++ decimal_of arrival
-answer_text (Confirmed n) = confirmed_word ++ decimal_of n
-answer_text (Restarted n) = restarted_word ++ decimal_of n
-answer_text Reset = reset_word
-answer_text (Refused n) = refused_word ++ decimal_of n.0
+unfoldable pub answer_text : Result Answer Refusal → List ℕ
+answer_text (Ok Ready) = []
+answer_text (Ok (Accepted n)) = accepted_word ++ decimal_of n
+answer_text (Ok (answer.Reply r)) = reply_text r
+answer_text (Ok (Started offset arrival)) = started_word ++ decimal_of arrival
+answer_text (Ok (Confirmed n)) = confirmed_word ++ decimal_of n
+answer_text (Ok (Restarted n)) = restarted_word ++ decimal_of n
+answer_text (Ok Reset) = reset_word
+answer_text (Err n) = refused_word ++ decimal_of (Codes.refusal_number n)
 
 -- the line of event n
-abbrev pub line_of : ℕ → Answer → List ℕ
+abbrev pub line_of : ℕ → Result Answer Refusal → List ℕ
 line_of n a = decimal_of n ++ (answer_text a ++ (newline ∷ []))
 
 -- the last line: `end ok` and the live count, `end bad`, `end refused 11`

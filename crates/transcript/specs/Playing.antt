@@ -1,5 +1,7 @@
 -- What open, advance and close do. This follows the code: believe Text.antt, which they print, as Promises.antt says.
+use Rattle.std.specs.Prelude.{Result, Ok, Err}
 use Rattle.std.specs.Prelude.{ℕ, zero, suc, ◌+◌, ◌-◌, ◌^◌, ◌≡◌, Bool, true, false, cond, List, [], ◌++◌, length, take, ltb, leb, eqb}
+use Rattle.wire.specs.declared.codes.Refusal.{Refusal}
 use Rattle.wire.specs.Codes
 use Rattle.task.specs.Map.{live_count}
 use Rattle.table.specs.Tables.{zero_table}
@@ -39,15 +41,15 @@ is_playing state.Refused = false
 
 -- ---- open
 
-abbrev pub is_refused : Answer → Bool
-is_refused answer.Ready = false
-is_refused (answer.Accepted n) = false
-is_refused (answer.Reply r) = false
-is_refused (answer.Started offset arrival) = false
-is_refused (answer.Confirmed n) = false
-is_refused (answer.Restarted n) = false
-is_refused answer.Reset = false
-is_refused (answer.Refused n) = true
+abbrev pub is_refused : Result Answer Refusal → Bool
+is_refused (Ok answer.Ready) = false
+is_refused (Ok (answer.Accepted n)) = false
+is_refused (Ok (answer.Reply r)) = false
+is_refused (Ok (answer.Started offset arrival)) = false
+is_refused (Ok (answer.Confirmed n)) = false
+is_refused (Ok (answer.Restarted n)) = false
+is_refused (Ok answer.Reset) = false
+is_refused (Err n) = true
 
 -- setup by a header
 abbrev pub set_by : Header → Outcome
@@ -65,7 +67,7 @@ opened s = cond (ltb longest (length s)) (standing zero_table state.Bad) (by_hea
 -- ---- advance
 
 abbrev pub idled : Player → Turn
-idled p = record { player = p; answer = answer.Ready; played = false }
+idled p = record { player = p; answer = Ok answer.Ready; played = false }
 
 unfoldable pub by_next : Player → List ℕ → Next → Turn
 by_next p s Bad = idled (standing_at p state.Bad)

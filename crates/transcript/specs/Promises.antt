@@ -1,5 +1,7 @@
 -- What is promised of the transcript beside the contracts. Each is proved in proofs/Promises.antt.
+use Rattle.std.specs.Prelude.{Result}
 use Rattle.std.specs.Prelude.{ℕ, suc, ◌+◌, ◌≤◌, ◌≡◌, List, length, take}
+use Rattle.wire.specs.declared.codes.Refusal.{Refusal}
 use Rattle.table.specs.declared.Table.{Table}
 use Rattle.plan.specs.declared.Answer.{Answer}
 use Rattle.transcript.specs.Lines.{empty_line, push_all, line_of, Handed}
@@ -25,7 +27,7 @@ abbrev pub Fits : List ℕ → Type 0
 Fits bs = ((push_all empty_line bs).len ≡ length bs) × (take (length bs) (push_all empty_line bs).bytes ≡ bs)
 
 abbrev pub LinesAreWhole : Type 0
-LinesAreWhole = (n : ℕ) (a : Answer) → Fits (line_of n a)
+LinesAreWhole = (n : ℕ) (a : Result Answer Refusal) → Fits (line_of n a)
 
 abbrev pub LastLinesAreWhole : Type 0
 LastLinesAreWhole = (p : Player) → Fits (last_text p)

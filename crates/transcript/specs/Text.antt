@@ -21,7 +21,7 @@ longest = 65536
 
 -- the last line of an input that is refused: `end bad` for a malformed one, the refusal's number for any other
 abbrev pub end_of : Refusal → List ℕ
-end_of r = cond (eqb r.0 (Codes.malformed).0) end_bad (end_refused r.0)
+end_of r = cond (eqb (Codes.refusal_number r) (Codes.refusal_number Codes.malformed)) end_bad (end_refused (Codes.refusal_number r))
 
 -- the part of the input from one place up to another
 unfoldable pub part_of : List ℕ → ℕ → ℕ → List ℕ

@@ -1,4 +1,5 @@
 -- Wrong drives: what a drive answers to a message, when it meets demand 2, and three that do not.
+use Rattle.std.specs.Prelude.{Result, Err}
 use Rattle.std.specs.Prelude.{ℕ, ◌≡◌, List}
 use Rattle.wire.specs.declared.codes.Refusal.{Refusal}
 use Rattle.table.specs.declared.Table.{Table}
@@ -19,10 +20,10 @@ MeetsAt d t m = MessageContract t m buffer (d.outcome t m buffer) (d.left t m bu
 
 -- it refuses every message
 abbrev pub RefusesAll : MessageDrive → Type 0
-RefusesAll d = (t : Table) (m buf : List ℕ) → (n : Refusal) × ((d.outcome t m buf).answer ≡ answer.Refused n)
+RefusesAll d = (t : Table) (m buf : List ℕ) → (n : Refusal) × ((d.outcome t m buf).answer ≡ Err n)
 
 -- it answers all with a single reply
-abbrev pub AnswersOne : MessageDrive → Answer → Type 0
+abbrev pub AnswersOne : MessageDrive → Result Answer Refusal → Type 0
 AnswersOne d a = (t : Table) (m buf : List ℕ) → (d.outcome t m buf).answer ≡ a
 
 -- it never touches the table
@@ -33,5 +34,5 @@ NeverTouches d = (t : Table) (m buf : List ℕ) → (d.outcome t m buf).table �
 abbrev pub WrongDrives : Type 0
 WrongDrives = (d : MessageDrive)
     → (MeetsAt d quiet plain → RefusesAll d → ⊥)
-    × (MeetsAt d quiet plain → MeetsAt d quiet resumed → (a : Answer) → AnswersOne d a → ⊥)
+    × (MeetsAt d quiet plain → MeetsAt d quiet resumed → (a : Result Answer Refusal) → AnswersOne d a → ⊥)
     × (MeetsAt d full plain → NeverTouches d → ⊥)

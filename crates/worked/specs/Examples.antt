@@ -1,7 +1,9 @@
 -- Page 01's proved examples a to l as one table, its worked calls as page 02's M-103 has them, which answers hold the
 -- queue as another table, confirmed status as a third, and what each order ends. Paths 1 and 2, mask 01h, no attention,
 -- nothing live unless said; tag 0005h, path 1, kind 3, zero CDB.
+use Rattle.std.specs.Prelude.{Result, Ok, Err}
 use Rattle.std.specs.Prelude.{ℕ, zero, suc, ◌+◌, ◌-◌, ◌^◌, ◌≡◌, Bool, true, false, List, [], ◌∷◌, map, replicate}
+use Rattle.wire.specs.declared.codes.Refusal.{Refusal}
 use Rattle.wire.specs.Codes
 use Rattle.reply.specs.Calls.{placed}
 use Rattle.task.specs.Tasks.{no_task, accepted_as}
@@ -19,7 +21,7 @@ use Rattle.table.specs.declared.Attention.{Attention}
 use Rattle.table.specs.declared.Attention.TheVariants as attention
 use Rattle.plan.specs.declared.Answer.{Answer}
 use Rattle.reply.specs.declared.Reply.TheVariants.{Response, Status, Invalid}
-use Rattle.plan.specs.declared.Answer.TheVariants.{Accepted, Reply, Started, Confirmed, Restarted, Refused}
+use Rattle.plan.specs.declared.Answer.TheVariants.{Accepted, Reply, Started, Confirmed, Restarted}
 use Rattle.engine.specs.Calls.{message_of, start_of, finish_of, setup_of, replied}
 use Rattle.engine.specs.declared.Outcome.{Outcome}
 
@@ -70,29 +72,29 @@ unit_reset lun = 0x83 ∷ 0x35 ∷ 0 ∷ 5 ∷ 0 ∷ 0 ∷ 0 ∷ 1 ∷ lun
 pub record Example : Type 0 where
   pub table : Table
   pub message : List ℕ
-  pub answer : Answer
+  pub answer : Result Answer Refusal
   pub reply : List ℕ
 
 -- an answer with no reply
-abbrev pub silent : Table → List ℕ → Answer → Example
+abbrev pub silent : Table → List ℕ → Result Answer Refusal → Example
 silent t m a = record { table = t; message = m; answer = a; reply = [] }
 
 abbrev pub refuses : Table → List ℕ → ℕ → Example
-refuses t m n = silent t m (Refused (Codes.refusal n))
+refuses t m n = silent t m (Err (Codes.refusal n))
 
 abbrev pub accept : Table → List ℕ → ℕ → Example
-accept t m arrival = silent t m (Accepted arrival)
+accept t m arrival = silent t m (Ok (Accepted arrival))
 
 -- RESPONSE to tag 0005h
 abbrev pub response : Table → List ℕ → ℕ → Example
-response t m code = record { table = t; message = m; answer = Reply (Response 5 (Codes.return_code code)); reply = 0x83 ∷ 0x03 ∷ 0x00 ∷ 0x05 ∷ code ∷ [] }
+response t m code = record { table = t; message = m; answer = Ok (Reply (Response 5 (Codes.return_code code))); reply = 0x83 ∷ 0x03 ∷ 0x00 ∷ 0x05 ∷ code ∷ [] }
 
 -- STATUS to tag 0005h: without sense, and 02h with sense key and code
 abbrev pub status : Table → List ℕ → ℕ → Example
 status t m byte = record {
   table = t;
   message = m;
-  answer = Reply (Status 5 (Codes.status_byte byte) Codes.no_sense);
+  answer = Ok (Reply (Status 5 (Codes.status_byte byte) Codes.no_sense));
   reply = 0x83 ∷ 0x11 ∷ 0x00 ∷ 0x05 ∷ byte ∷ replicate 21 0;
 }
 
@@ -100,13 +102,13 @@ abbrev pub check : Table → List ℕ → ℕ → ℕ → Example
 check t m key code = record {
   table = t;
   message = m;
-  answer = Reply (Status 5 (Codes.status_byte 0x02) (Codes.sense key code 0x00));
+  answer = Ok (Reply (Status 5 (Codes.status_byte 0x02) (Codes.sense key code 0x00)));
   reply = 0x83 ∷ 0x11 ∷ 0x00 ∷ 0x05 ∷ 0x02 ∷ 0 ∷ 0 ∷ 0 ∷ 0x70 ∷ 0 ∷ key ∷ 0 ∷ 0 ∷ 0 ∷ 0 ∷ 0x0a ∷ 0 ∷ 0 ∷ 0 ∷ 0 ∷ code ∷ 0 ∷ 0 ∷ 0 ∷ 0 ∷ 0 ∷ [];
 }
 
 -- STATUS 00h with RETURN CODE FFh to tag 0005h
 abbrev pub invalid : Table → List ℕ → Example
-invalid t m = record { table = t; message = m; answer = Reply (Invalid 5); reply = 0x83 ∷ 0x11 ∷ 0x00 ∷ 0x05 ∷ 0x00 ∷ 0x00 ∷ 0xff ∷ replicate 19 0 }
+invalid t m = record { table = t; message = m; answer = Ok (Reply (Invalid 5)); reply = 0x83 ∷ 0x11 ∷ 0x00 ∷ 0x05 ∷ 0x00 ∷ 0x00 ∷ 0xff ∷ replicate 19 0 }
 
 -- the full table, after its command was answered
 abbrev pub again : Table
@@ -139,10 +141,10 @@ abbrev pub buffer : List ℕ
 buffer = replicate 64 0xaa
 
 -- the answer to an example's message and the buffer as it is left; and as page 01 says them
-abbrev pub got : Example → Answer × List ℕ
+abbrev pub got : Example → Result Answer Refusal × List ℕ
 got e = ((message_of e.table e.message 64).answer, replied (message_of e.table e.message 64).answer buffer)
 
-abbrev pub said : Example → Answer × List ℕ
+abbrev pub said : Example → Result Answer Refusal × List ℕ
 said e = (e.answer, placed e.reply buffer)
 
 abbrev pub ExamplesHold : Type 0
@@ -171,14 +173,14 @@ fourth t = finish_of (third t).table 1 (Codes.status_byte 0x00) Codes.no_sense 0
 abbrev pub fifth : Table → Outcome
 fifth t = finish_of (fourth t).table 1 (Codes.status_byte 0x00) Codes.no_sense 0 64
 
-abbrev pub answers_from : Outcome → List Answer
+abbrev pub answers_from : Outcome → List (Result Answer Refusal)
 answers_from o = map (λ (x : Outcome). x.answer) (let t = o.table in o ∷ second t ∷ third t ∷ fourth t ∷ fifth t ∷ [])
 
 abbrev pub WorkedCalls : Type 0
 WorkedCalls =
     answers_from worked1
-    ≡ Reply (Status 5 (Codes.status_byte 0x02) (Codes.sense 0x06 0x29 0x00)) ∷ Reply (Status 6 (Codes.status_byte 0x30) Codes.no_sense) ∷ Refused (Codes.refusal 8) ∷ Refused (Codes.refusal 9)
-    ∷ Refused (Codes.refusal 9) ∷ []
+    ≡ (Ok (Reply (Status 5 (Codes.status_byte 0x02) (Codes.sense 0x06 0x29 0x00)))) ∷ (Ok (Reply (Status 6 (Codes.status_byte 0x30) Codes.no_sense))) ∷ (Err (Codes.refusal 8)) ∷ (Err (Codes.refusal 9))
+    ∷ (Err (Codes.refusal 9)) ∷ []
 
 -- the same with CLEAR ACA, tag 0007h, after the first command: the second is accepted, started and finished
 abbrev pub clearing : Outcome
@@ -187,7 +189,7 @@ clearing = message_of worked1.table (0x83 ∷ 0x34 ∷ 0 ∷ 7 ∷ 0 ∷ 0 ∷ 0
 abbrev pub ClearedCalls : Type 0
 ClearedCalls =
     answers_from clearing
-    ≡ Reply (Response 7 (Codes.return_code 0x00)) ∷ Accepted 1 ∷ Started 0 1 ∷ Reply (Status 6 (Codes.status_byte 0x00) Codes.no_sense) ∷ Refused (Codes.refusal 9) ∷ []
+    ≡ (Ok (Reply (Response 7 (Codes.return_code 0x00)))) ∷ (Ok (Accepted 1)) ∷ (Ok (Started 0 1)) ∷ (Ok (Reply (Status 6 (Codes.status_byte 0x00) Codes.no_sense))) ∷ (Err (Codes.refusal 9)) ∷ []
 
 -- ---- which answers hold the queue
 
@@ -263,11 +265,11 @@ holdings =
     ∷ row (accept quiet plain 1) Clear (listed 1)  -- 11
     ∷ []
 
-abbrev pub after : Hold → (Answer × List ℕ) × (List unit.Unit × path.Path)
+abbrev pub after : Hold → (Result Answer Refusal × List ℕ) × (List unit.Unit × path.Path)
 after h = let t = (message_of h.example.table h.example.message 64).table in (got h.example, (t.units, path_at t 0))
 
 -- no other unit has an ACA
-abbrev pub expected : Hold → (Answer × List ℕ) × (List unit.Unit × path.Path)
+abbrev pub expected : Hold → (Result Answer Refusal × List ℕ) × (List unit.Unit × path.Path)
 expected h = (said h.example, (record { aca = h.aca } ∷ replicate 7 no_unit, h.sender))
 
 abbrev pub HoldingsHold : Type 0
@@ -280,9 +282,9 @@ sends_aca t = message_of t (aca_kind zeros) 64
 
 abbrev pub AgainPasses : Type 0
 AgainPasses =
-    ((sends_aca (sends_aca quiet).table).answer ≡ Accepted 1)
+    ((sends_aca (sends_aca quiet).table).answer ≡ Ok (Accepted 1))
     × (map (λ (o : Outcome). o.answer) (let u = attentive attention.Reset Clear in sends_aca u ∷ sends_aca (sends_aca u).table ∷ sends_aca (sends_aca (sends_aca u).table).table ∷ [])
-    ≡ Reply (Status 5 Codes.check_condition Codes.no_aca_there) ∷ Reply (Status 5 Codes.check_condition Codes.reset_occurred) ∷ Accepted 1 ∷ [])
+    ≡ (Ok (Reply (Status 5 Codes.check_condition Codes.no_aca_there))) ∷ (Ok (Reply (Status 5 Codes.check_condition Codes.reset_occurred))) ∷ (Ok (Accepted 1)) ∷ [])
 
 -- path 2's task runs on unit 0; path 1's bad command holds the queue; the task goes on, and its finish with 02h leaves
 -- the first owner
@@ -300,7 +302,7 @@ held = record { aca = Owned 0 } ∷ replicate 7 no_unit
 
 abbrev pub RunsOn : Type 0
 RunsOn =
-    (map (λ (o : Outcome). o.answer) (bad ∷ ends ∷ []) ≡ Reply (Status 5 Codes.check_condition Codes.invalid_in_block) ∷ Reply (Status 6 Codes.check_condition Codes.no_sense) ∷ [])
+    (map (λ (o : Outcome). o.answer) (bad ∷ ends ∷ []) ≡ (Ok (Reply (Status 5 Codes.check_condition Codes.invalid_in_block))) ∷ (Ok (Reply (Status 6 Codes.check_condition Codes.no_sense))) ∷ [])
     × (map (λ (o : Outcome). o.table.units) (bad ∷ ends ∷ []) ≡ held ∷ held ∷ [])
 
 -- ---- confirmed status
@@ -343,9 +345,9 @@ confirmations =
     ∷ refuses waits (confirm 1 1 0 (0x80 ∷ [])) 15  -- it waits to start
     ∷ refuses underway (confirm 1 1 0 (0x80 ∷ [])) 15  -- it runs
     ∷ refuses unconfirmed (confirm 2 2 0 (0x80 ∷ [])) 15  -- the tag of another path
-    ∷ silent unconfirmed (confirm 1 1 0xff (0x80 ∷ [])) (Confirmed 1)
-    ∷ silent unconfirmed (confirm 1 2 0 (0x80 ∷ [])) (Confirmed 1)  -- NEW RETURN PATH ID is not looked at
-    ∷ silent unconfirmed (confirm 1 1 16 (0 ∷ [])) (Restarted 1)
+    ∷ silent unconfirmed (confirm 1 1 0xff (0x80 ∷ [])) (Ok (Confirmed 1))
+    ∷ silent unconfirmed (confirm 1 2 0 (0x80 ∷ [])) (Ok (Confirmed 1))  -- NEW RETURN PATH ID is not looked at
+    ∷ silent unconfirmed (confirm 1 1 16 (0 ∷ [])) (Ok (Restarted 1))
     ∷ response unconfirmed (confirm 1 1 17 (0 ∷ [])) 0xff
     ∷ []
 
@@ -357,7 +359,7 @@ ConfirmationsHold = map got confirmations ≡ map said confirmations
 abbrev pub ConfirmedCalls : Type 0
 ConfirmedCalls =
     map (λ (o : Outcome). o.answer) (start_of unconfirmed 0 ∷ finish_of unconfirmed 1 Codes.good Codes.no_sense 16 64 ∷ start_of again8 0 ∷ [])
-    ≡ Started 0 2 ∷ Refused (Codes.refusal 9) ∷ Started 8 1 ∷ []
+    ≡ (Ok (Started 0 2)) ∷ (Err (Codes.refusal 9)) ∷ (Ok (Started 8 1)) ∷ []
 
 -- ---- what an order ends
 
