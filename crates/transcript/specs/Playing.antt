@@ -1,5 +1,5 @@
 -- What open, advance and close do. This follows the code: believe Text.antt, which they print, as Promises.antt says.
-use Rattle.std.specs.Prelude.{Result, Ok, Err}
+use Rattle.std.specs.Prelude.{Result, Ok, is_err}
 use Rattle.std.specs.Prelude.{ℕ, zero, suc, ◌+◌, ◌-◌, ◌^◌, ◌≡◌, Bool, true, false, cond, List, [], ◌++◌, length, take, ltb, leb, eqb}
 use Rattle.wire.specs.declared.codes.Refusal.{Refusal}
 use Rattle.wire.specs.Codes
@@ -41,16 +41,6 @@ is_playing state.Refused = false
 
 -- ---- open
 
-abbrev pub is_refused : Result Answer Refusal → Bool
-is_refused (Ok answer.Ready) = false
-is_refused (Ok (answer.Accepted n)) = false
-is_refused (Ok (answer.Reply r)) = false
-is_refused (Ok (answer.Started offset arrival)) = false
-is_refused (Ok (answer.Confirmed n)) = false
-is_refused (Ok (answer.Restarted n)) = false
-is_refused (Ok answer.Reset) = false
-is_refused (Err n) = true
-
 -- setup by a header
 abbrev pub set_by : Header → Outcome
 set_by h = setup_of (take h.count h.ids) h.mask h.first
@@ -58,7 +48,7 @@ set_by h = setup_of (take h.count h.ids) h.mask h.first
 unfoldable pub by_header : Header → Player
 by_header h =
     cond h.ok
-    (cond (is_refused (set_by h).answer) (standing (set_by h).table state.Refused) (player (set_by h).table h.next 0 state.Playing))
+    (cond (is_err (set_by h).answer) (standing (set_by h).table state.Refused) (player (set_by h).table h.next 0 state.Playing))
     (standing zero_table state.Bad)
 
 unfoldable pub opened : List ℕ → Player

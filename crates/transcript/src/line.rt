@@ -6,7 +6,7 @@ ghost use Rattle.transcript.specs.Text.{end_of};
 
 use plan::Answer;
 use reply::Reply;
-use wire::codes::Sense;
+use wire::codes::{Refusal, Sense};
 use wire::fields::copy;
 
 #[derive(Clone, Copy)]
@@ -126,23 +126,23 @@ fn push_reply(l: Line, r: Reply) -> Line
 }
 
 // What an answer says behind the event's number.
-fn push_answer(l: Line, a: Answer) -> Line
+fn push_answer(l: Line, a: Result<Answer, Refusal>) -> Line
     ensures { result ≡ push_all l (answer_text a) }
 {
     match a {
-        Answer::Ready => l,
-        Answer::Accepted(n) => push_number(l, b" accepted ", n),
-        Answer::Reply(r) => push_reply(l, r),
-        Answer::Started { offset: _, arrival } => push_number(l, b" started ", arrival),
-        Answer::Confirmed(n) => push_number(l, b" confirmed ", n),
-        Answer::Restarted(n) => push_number(l, b" restarted ", n),
-        Answer::Reset => push_word(l, b" reset"),
-        Answer::Refused(n) => push_number(l, b" refused ", n.0 as u64),
+        Ok(Answer::Ready) => l,
+        Ok(Answer::Accepted(n)) => push_number(l, b" accepted ", n),
+        Ok(Answer::Reply(r)) => push_reply(l, r),
+        Ok(Answer::Started { offset: _, arrival }) => push_number(l, b" started ", arrival),
+        Ok(Answer::Confirmed(n)) => push_number(l, b" confirmed ", n),
+        Ok(Answer::Restarted(n)) => push_number(l, b" restarted ", n),
+        Ok(Answer::Reset) => push_word(l, b" reset"),
+        Err(n) => push_number(l, b" refused ", n.number() as u64),
     }
 }
 
 // The line of event n.
-pub(crate) fn event_line(n: u64, a: Answer) -> Line
+pub(crate) fn event_line(n: u64, a: Result<Answer, Refusal>) -> Line
     ensures { result ≡ push_all empty_line (line_of n a) }
 {
     push_word(push_answer(push_decimal(empty(), n), a), b"\n")

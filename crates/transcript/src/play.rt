@@ -2,14 +2,14 @@
 ghost use Rattle.std.specs.Prelude.{◌≡◌};
 ghost use Rattle.transcript.specs.Text.{part_of, called};
 ghost use Rattle.transcript.specs.Lines.{Handed};
-ghost use Rattle.transcript.specs.Playing.{standing, standing_at, is_playing, is_refused, opened, idled, turned, Advances, last_line};
+ghost use Rattle.transcript.specs.Playing.{standing, standing_at, is_playing, opened, idled, turned, Advances, last_line};
 
 use crate::line::{LINE_ROOM, Line};
 use engine::Outcome;
 use input::event::{Event, Next};
 use plan::Answer;
 use table::Table;
-use wire::codes::REPLY_ROOM;
+use wire::codes::{REPLY_ROOM, Refusal};
 
 // Where a player stands: in an input that goes on, at its end, at something malformed, or at a refused setup.
 #[derive(Clone, Copy)]
@@ -66,7 +66,7 @@ pub fn open(s: &[u8]) -> Player
     let o = engine::calls::setup(&ids[..count], h.mask, h.first);
     let table = o.table;
     let answer = o.answer;
-    if is_refused(answer) {
+    if answer.is_err() {
         return stopped(table, State::Refused);
     }
     Player {
@@ -74,15 +74,6 @@ pub fn open(s: &[u8]) -> Player
         at: h.next,
         number: 0,
         state: State::Playing,
-    }
-}
-
-fn is_refused(answer: Answer) -> bool
-    ensures { result ≡ is_refused answer }
-{
-    match answer {
-        Answer::Refused(_) => true,
-        _ => false,
     }
 }
 
@@ -147,7 +138,7 @@ fn is_playing(state: State) -> bool
 #[derive(Clone, Copy)]
 pub struct Turn {
     pub player: Player,
-    pub answer: Answer,
+    pub answer: Result<Answer, Refusal>,
     pub played: bool,
 }
 
@@ -200,7 +191,7 @@ fn idle(p: Player, state: State) -> Turn
             number: p.number,
             state,
         },
-        answer: Answer::Ready,
+        answer: Ok(Answer::Ready),
         played: false,
     }
 }

@@ -68,19 +68,24 @@ resumed = command 1 0 0x23 0 zeros
 abbrev pub unit_reset : List ℕ → List ℕ
 unit_reset lun = 0x83 ∷ 0x35 ∷ 0 ∷ 5 ∷ 0 ∷ 0 ∷ 0 ∷ 1 ∷ lun
 
+-- an answer, or page 01's number of the refusal
+abbrev pub numbered : Result Answer Refusal → Result Answer ℕ
+numbered (Ok a) = Ok a
+numbered (Err n) = Err (Codes.refusal_number n)
+
 -- what a message is answered, and the bytes of the reply, none where the answer is no reply
 pub record Example : Type 0 where
   pub table : Table
   pub message : List ℕ
-  pub answer : Result Answer Refusal
+  pub answer : Result Answer ℕ
   pub reply : List ℕ
 
 -- an answer with no reply
-abbrev pub silent : Table → List ℕ → Result Answer Refusal → Example
+abbrev pub silent : Table → List ℕ → Result Answer ℕ → Example
 silent t m a = record { table = t; message = m; answer = a; reply = [] }
 
 abbrev pub refuses : Table → List ℕ → ℕ → Example
-refuses t m n = silent t m (Err (Codes.refusal n))
+refuses t m n = silent t m (Err n)
 
 abbrev pub accept : Table → List ℕ → ℕ → Example
 accept t m arrival = silent t m (Ok (Accepted arrival))
@@ -141,10 +146,10 @@ abbrev pub buffer : List ℕ
 buffer = replicate 64 0xaa
 
 -- the answer to an example's message and the buffer as it is left; and as page 01 says them
-abbrev pub got : Example → Result Answer Refusal × List ℕ
-got e = ((message_of e.table e.message 64).answer, replied (message_of e.table e.message 64).answer buffer)
+abbrev pub got : Example → Result Answer ℕ × List ℕ
+got e = (numbered (message_of e.table e.message 64).answer, replied (message_of e.table e.message 64).answer buffer)
 
-abbrev pub said : Example → Result Answer Refusal × List ℕ
+abbrev pub said : Example → Result Answer ℕ × List ℕ
 said e = (e.answer, placed e.reply buffer)
 
 abbrev pub ExamplesHold : Type 0
@@ -173,14 +178,14 @@ fourth t = finish_of (third t).table 1 (Codes.status_byte 0x00) Codes.no_sense 0
 abbrev pub fifth : Table → Outcome
 fifth t = finish_of (fourth t).table 1 (Codes.status_byte 0x00) Codes.no_sense 0 64
 
-abbrev pub answers_from : Outcome → List (Result Answer Refusal)
-answers_from o = map (λ (x : Outcome). x.answer) (let t = o.table in o ∷ second t ∷ third t ∷ fourth t ∷ fifth t ∷ [])
+abbrev pub answers_from : Outcome → List (Result Answer ℕ)
+answers_from o = map (λ (x : Outcome). numbered x.answer) (let t = o.table in o ∷ second t ∷ third t ∷ fourth t ∷ fifth t ∷ [])
 
 abbrev pub WorkedCalls : Type 0
 WorkedCalls =
     answers_from worked1
-    ≡ (Ok (Reply (Status 5 (Codes.status_byte 0x02) (Codes.sense 0x06 0x29 0x00)))) ∷ (Ok (Reply (Status 6 (Codes.status_byte 0x30) Codes.no_sense))) ∷ (Err (Codes.refusal 8)) ∷ (Err (Codes.refusal 9))
-    ∷ (Err (Codes.refusal 9)) ∷ []
+    ≡ (Ok (Reply (Status 5 (Codes.status_byte 0x02) (Codes.sense 0x06 0x29 0x00)))) ∷ (Ok (Reply (Status 6 (Codes.status_byte 0x30) Codes.no_sense))) ∷ (Err 8) ∷ (Err 9)
+    ∷ (Err 9) ∷ []
 
 -- the same with CLEAR ACA, tag 0007h, after the first command: the second is accepted, started and finished
 abbrev pub clearing : Outcome
@@ -189,7 +194,7 @@ clearing = message_of worked1.table (0x83 ∷ 0x34 ∷ 0 ∷ 7 ∷ 0 ∷ 0 ∷ 0
 abbrev pub ClearedCalls : Type 0
 ClearedCalls =
     answers_from clearing
-    ≡ (Ok (Reply (Response 7 (Codes.return_code 0x00)))) ∷ (Ok (Accepted 1)) ∷ (Ok (Started 0 1)) ∷ (Ok (Reply (Status 6 (Codes.status_byte 0x00) Codes.no_sense))) ∷ (Err (Codes.refusal 9)) ∷ []
+    ≡ (Ok (Reply (Response 7 (Codes.return_code 0x00)))) ∷ (Ok (Accepted 1)) ∷ (Ok (Started 0 1)) ∷ (Ok (Reply (Status 6 (Codes.status_byte 0x00) Codes.no_sense))) ∷ (Err 9) ∷ []
 
 -- ---- which answers hold the queue
 
@@ -265,11 +270,11 @@ holdings =
     ∷ row (accept quiet plain 1) Clear (listed 1)  -- 11
     ∷ []
 
-abbrev pub after : Hold → (Result Answer Refusal × List ℕ) × (List unit.Unit × path.Path)
+abbrev pub after : Hold → (Result Answer ℕ × List ℕ) × (List unit.Unit × path.Path)
 after h = let t = (message_of h.example.table h.example.message 64).table in (got h.example, (t.units, path_at t 0))
 
 -- no other unit has an ACA
-abbrev pub expected : Hold → (Result Answer Refusal × List ℕ) × (List unit.Unit × path.Path)
+abbrev pub expected : Hold → (Result Answer ℕ × List ℕ) × (List unit.Unit × path.Path)
 expected h = (said h.example, (record { aca = h.aca } ∷ replicate 7 no_unit, h.sender))
 
 abbrev pub HoldingsHold : Type 0
@@ -283,7 +288,7 @@ sends_aca t = message_of t (aca_kind zeros) 64
 abbrev pub AgainPasses : Type 0
 AgainPasses =
     ((sends_aca (sends_aca quiet).table).answer ≡ Ok (Accepted 1))
-    × (map (λ (o : Outcome). o.answer) (let u = attentive attention.Reset Clear in sends_aca u ∷ sends_aca (sends_aca u).table ∷ sends_aca (sends_aca (sends_aca u).table).table ∷ [])
+    × (map (λ (o : Outcome). numbered o.answer) (let u = attentive attention.Reset Clear in sends_aca u ∷ sends_aca (sends_aca u).table ∷ sends_aca (sends_aca (sends_aca u).table).table ∷ [])
     ≡ (Ok (Reply (Status 5 Codes.check_condition Codes.no_aca_there))) ∷ (Ok (Reply (Status 5 Codes.check_condition Codes.reset_occurred))) ∷ (Ok (Accepted 1)) ∷ [])
 
 -- path 2's task runs on unit 0; path 1's bad command holds the queue; the task goes on, and its finish with 02h leaves
@@ -302,7 +307,7 @@ held = record { aca = Owned 0 } ∷ replicate 7 no_unit
 
 abbrev pub RunsOn : Type 0
 RunsOn =
-    (map (λ (o : Outcome). o.answer) (bad ∷ ends ∷ []) ≡ (Ok (Reply (Status 5 Codes.check_condition Codes.invalid_in_block))) ∷ (Ok (Reply (Status 6 Codes.check_condition Codes.no_sense))) ∷ [])
+    (map (λ (o : Outcome). numbered o.answer) (bad ∷ ends ∷ []) ≡ (Ok (Reply (Status 5 Codes.check_condition Codes.invalid_in_block))) ∷ (Ok (Reply (Status 6 Codes.check_condition Codes.no_sense))) ∷ [])
     × (map (λ (o : Outcome). o.table.units) (bad ∷ ends ∷ []) ≡ held ∷ held ∷ [])
 
 -- ---- confirmed status
@@ -358,8 +363,8 @@ ConfirmationsHold = map got confirmations ≡ map said confirmations
 -- first, and the offset is handed back
 abbrev pub ConfirmedCalls : Type 0
 ConfirmedCalls =
-    map (λ (o : Outcome). o.answer) (start_of unconfirmed 0 ∷ finish_of unconfirmed 1 Codes.good Codes.no_sense 16 64 ∷ start_of again8 0 ∷ [])
-    ≡ (Ok (Started 0 2)) ∷ (Err (Codes.refusal 9)) ∷ (Ok (Started 8 1)) ∷ []
+    map (λ (o : Outcome). numbered o.answer) (start_of unconfirmed 0 ∷ finish_of unconfirmed 1 Codes.good Codes.no_sense 16 64 ∷ start_of again8 0 ∷ [])
+    ≡ (Ok (Started 0 2)) ∷ (Err 9) ∷ (Ok (Started 8 1)) ∷ []
 
 -- ---- what an order ends
 
