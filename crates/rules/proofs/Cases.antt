@@ -13,6 +13,7 @@ use Rattle.wire.specs.Messages.{reserved_set}
 use Rattle.wire.specs.Block.{opcode}
 use Rattle.wire.specs.declared.codes.ReturnCode.{ReturnCode}
 use Rattle.wire.specs.declared.message.Flags.{Flags}
+use Rattle.std.specs.Prelude.{Option, is_some}
 use Rattle.task.specs.Selections.{named, aca_on}
 use Rattle.task.specs.declared.select.Selection.{Selection}
 use Rattle.table.specs.Tables.{path_at, unit_at, is_attached, has_aca, owned_by, has_room, others_on, pick_of}
@@ -33,7 +34,7 @@ use Rattle.rules.specs.declared.manage.Order.{Order}
 
 -- ---- what is asked of the table
 
-pub picks_so : (t : Table) (q : Selection) {s : Selection} {p : Pick} → s ≡ q → p ≡ pick_of t s → p ≡ pick_of t q
+pub picks_so : (t : Table) (q : Selection) {s : Selection} {p : Option Pick} → s ≡ q → p ≡ pick_of t s → p ≡ pick_of t q
 picks_so t q e h = rw e at h
 
 pub holds_so : (t : Table) (q : Selection) {s : Selection} {h : Holders} → s ≡ q → h ≡ holders_of t s → h ≡ holders_of t q
@@ -46,16 +47,16 @@ module _ (t : Table) (p lun : ℕ) {clears : Bool} {n : ℕ} where
   pub nobody_asked : n ≡ 0 → clears ≡ false → n ≡ cond clears (others_on t lun p) 0
   nobody_asked e a = e ∙ rw a
 
-module _ (t : Table) (p tag lun : ℕ) {s : path.Path} {u : unit.Unit} {own : Pick} {rival : Holders} {room attached aca owned : Bool} {n others : ℕ} where
+module _ (t : Table) (p tag lun : ℕ) {s : path.Path} {u : unit.Unit} {own : Option Pick} {rival : Holders} {taken room attached aca owned : Bool} {n others : ℕ} where
   pub looked_up :
-      s ≡ path_at t p → u ≡ unit_at t lun → own ≡ pick_of t (named p tag) → rival ≡ holders_of t (aca_on lun) → room ≡ has_room t → attached ≡ is_attached t lun → aca ≡ has_aca u.aca
+      s ≡ path_at t p → u ≡ unit_at t lun → own ≡ pick_of t (named p tag) → taken ≡ is_some own → rival ≡ holders_of t (aca_on lun) → room ≡ has_room t → attached ≡ is_attached t lun → aca ≡ has_aca u.aca
       → owned ≡ owned_by u.aca p → others ≡ n
       → record {
         facts = record {
           marked = s.full;
           attention = s.attention;
           room = room;
-          taken = own.found;
+          taken = taken;
           attached = attached;
           aca = aca;
           owned = owned;
@@ -66,7 +67,7 @@ module _ (t : Table) (p tag lun : ℕ) {s : path.Path} {u : unit.Unit} {own : Pi
       }
       ≡ lookup_of t p tag lun n
   unfolding facts_of lookup_of holders_of
-  looked_up e h a b c d f g k = rw (a, b, c, d, f, g, k, e, h)
+  looked_up e h a j b c d f g k = rw (j, a, b, c, d, f, g, k, e, h)
 
 pub ruleset look_up_cases = (looked_up, picks_so, holds_so, others_asked, nobody_asked)
 

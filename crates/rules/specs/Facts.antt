@@ -1,6 +1,6 @@
 -- What the rules and orders ask of the table, for the sender's place p in the path list: about its task with a tag,
 -- and about a unit.
-use Rattle.std.specs.Prelude.{ℕ, Bool, false}
+use Rattle.std.specs.Prelude.{ℕ, Bool, false, is_some}
 use Rattle.task.specs.Selections.{named, aca_on}
 use Rattle.task.specs.Scan.{nobody}
 use Rattle.table.specs.Tables.{path_at, unit_at, is_attached, has_aca, owned_by, pick_of, has_room}
@@ -14,11 +14,11 @@ facts_of t p tag lun = record {
   marked = (path_at t p).full;
   attention = (path_at t p).attention;
   room = has_room t;
-  taken = (pick_of t (named p tag)).found;
+  taken = is_some (pick_of t (named p tag));
   attached = is_attached t lun;
   aca = has_aca (unit_at t lun).aca;
   owned = owned_by (unit_at t lun).aca p;
-  busy = (pick_of t (aca_on lun)).found;
+  busy = is_some (pick_of t (aca_on lun));
 }
 
 -- the facts, that task itself, and the map of the other paths that have a task on the unit

@@ -1,11 +1,10 @@
 -- Management: what an order ends, which return code it gets, and what else it does to paths and units.
-use Rattle.std.specs.Prelude.{ℕ, Bool, true, false, cond, not, ◌&&◌, List}
+use Rattle.std.specs.Prelude.{ℕ, Bool, true, false, cond, not, ◌&&◌, List, Some, None}
 use Rattle.wire.specs.Codes
 use Rattle.wire.specs.Messages.{reserved_set}
 use Rattle.wire.specs.declared.codes.ReturnCode.{ReturnCode}
 use Rattle.task.specs.Selections.{every_task, named, on_unit, from_on, aca_from_on}
 use Rattle.task.specs.declared.select.Selection.{Selection}
-use Rattle.task.specs.declared.select.Place.TheVariants.{Anywhere, On}
 use Rattle.rules.specs.declared.facts.Facts.{Facts}
 use Rattle.rules.specs.declared.change.Change.{Change}
 use Rattle.rules.specs.declared.change.Change.TheVariants.{Nothing, ClearedAttention, AcaGoes, Resets}
@@ -86,11 +85,11 @@ order_code f m o = cond (reserved_set m) Codes.invalid_field (cond (has_unit o &
 
 -- CLEAR TASK SET: every other path that lost one gets cleared attention, unless reset is pending; ACA stays. CLEAR
 -- ACA: the unit's ACA goes. LOGICAL UNIT RESET: the unit's ACA goes; reset attention on all paths; marks stay. TARGET
--- RESET: the same for all units
+-- RESET: the same for all units. The unit whose ACA goes is Some lun; None is every unit
 abbrev pub order_change : ℕ → Order → Change
 order_change others (AbortTask tag2) = Nothing
 order_change others (AbortTaskSet lun) = Nothing
 order_change others (ClearTaskSet lun) = ClearedAttention others
 order_change others (ClearAca lun) = AcaGoes lun
-order_change others (UnitReset lun) = Resets (On lun)
-order_change others TargetReset = Resets Anywhere
+order_change others (UnitReset lun) = Resets (Some lun)
+order_change others TargetReset = Resets None

@@ -1,6 +1,4 @@
 // What an answer does to paths and units.
-use task::select::Place;
-
 // What an answer does to the sender's mark and attention.
 #[derive(Clone, Copy)]
 pub enum SenderChange {
@@ -39,6 +37,6 @@ pub enum Change {
     ClearedAttention(u8),
     // CLEAR ACA: the unit's ACA goes.
     AcaGoes(u8),
-    // A reset: reset attention on all paths, marks stay, and the ACA of a unit, or of all units, goes.
-    Resets(Place),
+    // A reset: reset attention on all paths, marks stay, and the ACA goes: of a unit, Some(unit), or of all units, None.
+    Resets(Option<u8>),
 }

@@ -29,7 +29,7 @@ pub struct Facts {
 #[derive(Clone, Copy)]
 pub struct Lookup {
     pub facts: Facts,
-    pub own: Pick,
+    pub own: Option<Pick>,
     pub others: u8,
 }
 
@@ -50,7 +50,7 @@ pub fn look_up(t: Table, p: u8, tag: u16, lun: u8, clears: bool) -> Lookup
         marked: sender.full,
         attention,
         room: t.has_room(),
-        taken: own.found,
+        taken: own.is_some(),
         attached: t.is_attached(lun),
         aca: table::units::has_aca(aca),
         owned: table::units::owned_by(aca, p),
@@ -61,15 +61,10 @@ pub fn look_up(t: Table, p: u8, tag: u16, lun: u8, clears: bool) -> Lookup
 
 // What an order that goes by its unit alone asks: whether the unit is attached, and with CLEAR TASK SET the other paths
 // that have a task there. All else is left at none.
+#[tactic(auto, unfolding(crate::specs::Facts::unit_alone))]
 pub fn unit_alone(attached: bool, others: u8) -> Lookup
     ensures { result ≡ unit_alone attached others }
 {
-    let task = task::no_task();
-    let own = Pick {
-        task,
-        at: 0,
-        found: false,
-    };
     let facts = Facts {
         marked: false,
         attention: Attention::Nothing,
@@ -80,5 +75,9 @@ pub fn unit_alone(attached: bool, others: u8) -> Lookup
         owned: false,
         busy: false,
     };
-    Lookup { facts, own, others }
+    Lookup {
+        facts,
+        own: None,
+        others,
+    }
 }

@@ -4,7 +4,7 @@ ghost use Rattle.rules.specs.Management.{ends_of, tag_of, unit_of, is_clear_set,
 
 use crate::change::Change;
 use crate::facts::Facts;
-use task::select::{Place, Selection};
+use task::select::Selection;
 use wire::codes::ReturnCode;
 
 // An order, with the tag or the unit that it names.
@@ -150,7 +150,7 @@ pub fn order_change(others: u8, o: Order) -> Change
         Order::AbortTaskSet(_) => Change::Nothing,
         Order::ClearTaskSet(_) => Change::ClearedAttention(others),
         Order::ClearAca(lun) => Change::AcaGoes(lun),
-        Order::UnitReset(lun) => Change::Resets(Place::On(lun)),
-        Order::TargetReset => Change::Resets(Place::Anywhere),
+        Order::UnitReset(lun) => Change::Resets(Some(lun)),
+        Order::TargetReset => Change::Resets(None),
     }
 }

@@ -9,7 +9,7 @@ use lib.ListN.{length, get_or, set, replicate, get_or-eq_default}
 use lib.Seq.{get_or-set_same, get_or-set_other}
 use lib.Dec.{ltb}
 use borrow.Author.Tests.{lt-ltb, ltb-true, ltb-false}
-use Rattle.task.specs.declared.select.Place.TheVariants.{Anywhere, On}
+use Rattle.std.specs.Prelude.{Some, None}
 use Rattle.wire.proofs.Table.{cond_ind}
 use Rattle.table.specs.Tables.{no_unit, aca_at, claimed_unit, claimed_in, aca_cleared_in, reset_of}
 use Rattle.table.specs.declared.Aca.TheVariants.{Clear, Owned}
@@ -54,14 +54,14 @@ none_there zero u = refl
 none_there (suc n) zero = refl
 none_there (suc n) (suc u) = none_there n u
 
-pub cleared_here : (units : List unit.Unit) (lun : ℕ) → length units ≡ 8 → aca_at (aca_cleared_in units (On lun)) lun ≡ Clear
+pub cleared_here : (units : List unit.Unit) (lun : ℕ) → length units ≡ 8 → aca_at (aca_cleared_in units (Some lun)) lun ≡ Clear
 unfolding aca_cleared_in
 cleared_here units lun whole =
     cond_ind (λ (l : List unit.Unit). aca_at l lun ≡ Clear) (ltb lun 8)
     (λ b. ap (λ (x : unit.Unit). x.aca) (get_or-set_same units lun no_unit no_unit (omega (arith, whole, ltb-true lun 8 b))))
     (λ b. ap (λ (x : unit.Unit). x.aca) (get_or-eq_default units no_unit (omega (arith, whole, ltb-false lun 8 b))))
 
-pub cleared_all : (units : List unit.Unit) (u : ℕ) → aca_at (aca_cleared_in units Anywhere) u ≡ Clear
+pub cleared_all : (units : List unit.Unit) (u : ℕ) → aca_at (aca_cleared_in units None) u ≡ Clear
 unfolding aca_cleared_in
 cleared_all units u = none_there 8 u
 
@@ -69,6 +69,6 @@ pub reset_all : (t : Table) (u : ℕ) → aca_at (reset_of t).units u ≡ Clear
 unfolding reset_of
 reset_all t u = none_there 8 u
 
-pub cleared_elsewhere : (units : List unit.Unit) (lun u : ℕ) → (u ≡ lun → ⊥) → aca_at (aca_cleared_in units (On lun)) u ≡ aca_at units u
+pub cleared_elsewhere : (units : List unit.Unit) (lun u : ℕ) → (u ≡ lun → ⊥) → aca_at (aca_cleared_in units (Some lun)) u ≡ aca_at units u
 unfolding aca_cleared_in
 cleared_elsewhere units lun u n = at_other units lun no_unit u n

@@ -20,7 +20,7 @@ use Rattle.wire.specs.declared.codes.Kind.{Kind}
 use Rattle.task.specs.declared.Phase.{Phase}
 use Rattle.task.specs.declared.Sequel.{Sequel}
 use Rattle.task.specs.declared.Task.{Task}
-use Rattle.task.specs.declared.select.Place.TheVariants.{Anywhere, On}
+use Rattle.std.specs.Prelude.{Some, None}
 use Rattle.wire.proofs.Table.{cond_ind, neither}
 use Rattle.task.proofs.Ways.{either_way, never, both}
 use Rattle.task.proofs.Places.{lt_or_le, some_none, none_at}
@@ -167,8 +167,8 @@ claim_keeps t unit path g h l =
 
 pub clear_keeps : ClearKeeps
 unfolding aca_cleared_in
-clear_keeps t Anywhere g n = units_keep t (replicate 8 no_unit) (length-replicate 8 no_unit) (λ u. rw (get_d_same 8 u no_unit) (may_go t u (n u))) g
-clear_keeps t (On unit) g n = set_keep t unit no_unit (may_go t unit n) g
+clear_keeps t None g n = units_keep t (replicate 8 no_unit) (length-replicate 8 no_unit) (λ u. rw (get_d_same 8 u no_unit) (may_go t u (n u))) g
+clear_keeps t (Some unit) g n = set_keep t unit no_unit (may_go t unit n) g
 
 -- ---- a change of the tasks
 
@@ -372,8 +372,8 @@ pub reset_keeps : ResetOfKeeps
 unfolding reset_of aca_cleared_in
 reset_keeps t g =
     let u = with_tasks t 0 (replicate 64 no_task) in
-    reset_attention_keeps (with_units u (aca_cleared_in u.units Anywhere)) true
-    (clear_keeps u Anywhere (wipe_good t g) (λ unit. any_empty u (aca_on unit) refl))
+    reset_attention_keeps (with_units u (aca_cleared_in u.units None)) true
+    (clear_keeps u None (wipe_good t g) (λ unit. any_empty u (aca_on unit) refl))
 
 -- ---- setup
 
@@ -505,7 +505,7 @@ module _ (t : Table) (n : length t.tasks ≡ 64) (s : Sound t) where
       each : (i : ℕ) → i < 64 → no_task ≡ wiped i (task_at t i)
       each i l = elim (either_way (is_live t.live i)) [ inl e ↦ rw e | inr e ↦ rw e (sym (s.dead_zero i l (at_dead t i e))) ]
 
-  pub reset_ends : ended_by (with_units (with_paths t (reset_attention_in t.paths t.count true)) (aca_cleared_in t.units Anywhere)) every_task ≡ reset_of t
+  pub reset_ends : ended_by (with_units (with_paths t (reset_attention_in t.paths t.count true)) (aca_cleared_in t.units None)) every_task ≡ reset_of t
   unfolding ended_by aca_cleared_in reset_of
   reset_ends = rw (none_left, all_wiped)
 

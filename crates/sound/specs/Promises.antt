@@ -1,6 +1,6 @@
 -- What is promised beside the contracts: the check is exact, its map of what was seen misses no clash, setup gives a
 -- sound table, and each change keeps a table sound under the condition that the engine has. Each is proved in proofs/.
-use Rattle.std.specs.Prelude.{ℕ, ◌<◌, ◌^◌, ◌≡◌, Bool, true, false, List, length, get_or}
+use Rattle.std.specs.Prelude.{ℕ, ◌<◌, ◌^◌, ◌≡◌, Bool, true, false, List, length, get_or, Option, Some, None}
 use Rattle.task.specs.Tasks.{is_aca, is_running}
 use Rattle.task.specs.Map.{is_live}
 use Rattle.task.specs.Selections.{every_task, named, aca_on, running_on}
@@ -8,8 +8,6 @@ use Rattle.wire.specs.declared.codes.Kind.{Kind}
 use Rattle.task.specs.declared.Sequel.{Sequel}
 use Rattle.task.specs.declared.Task.{Task}
 use Rattle.task.specs.declared.select.Selection.{Selection}
-use Rattle.task.specs.declared.select.Place.{Place}
-use Rattle.task.specs.declared.select.Place.TheVariants.{Anywhere, On}
 use Rattle.table.specs.Tables.{path_at, unit_at, task_at, is_attached, any_live, with_paths, with_units}
 use Rattle.table.specs.Tables.{marked_in, attention_gone_in, reset_attention_in, cleared_attention_in, others_on, claimed_in, aca_cleared_in}
 use Rattle.table.specs.Tables.{accepted, ended_by, altered_at, started, restarted, finished, reset_of}
@@ -98,13 +96,13 @@ FinishedKeeps = (t : Table) (i : ℕ) (failed : Bool) (transferred : ℕ) → Go
 abbrev pub ClaimKeeps : Type 0
 ClaimKeeps = (t : Table) (unit path : ℕ) → Good t → is_attached t unit ≡ true → path < t.count → Good (with_units t (claimed_in t.units unit path))
 
--- an ACA goes with its task: no ACA task may be left there
-abbrev pub no_aca_left : Table → Place → Type 0
-no_aca_left t Anywhere = (unit : ℕ) → any_live t (aca_on unit) ≡ false
-no_aca_left t (On unit) = any_live t (aca_on unit) ≡ false
+-- an ACA goes with its task: no ACA task may be left there, on the unit, Some unit, or on every unit, None
+abbrev pub no_aca_left : Table → Option ℕ → Type 0
+no_aca_left t None = (unit : ℕ) → any_live t (aca_on unit) ≡ false
+no_aca_left t (Some unit) = any_live t (aca_on unit) ≡ false
 
 abbrev pub ClearKeeps : Type 0
-ClearKeeps = (t : Table) (place : Place) → Good t → no_aca_left t place → Good (with_units t (aca_cleared_in t.units place))
+ClearKeeps = (t : Table) (place : Option ℕ) → Good t → no_aca_left t place → Good (with_units t (aca_cleared_in t.units place))
 
 abbrev pub MarkKeeps : Type 0
 MarkKeeps = (t : Table) (p : ℕ) (full : Bool) → Good t → p < t.count → Good (with_paths t (marked_in t.paths p full))
@@ -128,4 +126,4 @@ ResetIsSetup = (t : Table) (ids : List ℕ) → Good t → length ids ≡ t.coun
 
 -- and it is the pass that ends every task, with the marks and ACAs gone and reset attention on every listed path
 abbrev pub ResetIsEnding : Type 0
-ResetIsEnding = (t : Table) → Good t → ended_by (with_units (with_paths t (reset_attention_in t.paths t.count true)) (aca_cleared_in t.units Anywhere)) every_task ≡ reset_of t
+ResetIsEnding = (t : Table) → Good t → ended_by (with_units (with_paths t (reset_attention_in t.paths t.count true)) (aca_cleared_in t.units None)) every_task ≡ reset_of t

@@ -22,8 +22,7 @@ use Rattle.wire.specs.declared.codes.Kind.{Kind}
 use Rattle.task.specs.declared.Sequel.{Sequel}
 use Rattle.task.specs.declared.Task.{Task}
 use Rattle.task.specs.declared.select.Selection.{Selection}
-use Rattle.task.specs.declared.select.Place.{Place}
-use Rattle.task.specs.declared.select.Place.TheVariants.{Anywhere, On}
+use Rattle.std.specs.Prelude.{Option, Some, None}
 use Rattle.task.proofs.Ways.{cond_below, cond_past, answered_true, answered_false}
 use Rattle.task.proofs.Places.{lt_or_le, first_before, first_none, map_of_ext}
 use Rattle.task.proofs.Lists.{map_below, map_below_ahead, map_below_zero, map_below_step, map_below_put, map_below_skip, map_below_all}
@@ -95,12 +94,12 @@ module _ (units : List unit.Unit) (unit path : ℕ) (h : unit < 8) where
   unfolding claimed_in
   claim_made e = rw (lt-ltb unit 8 h, e)
 
-module _ (units : List unit.Unit) {place : Place} where
-  pub clear_all_units : {a : unit.Unit} → place ≡ Anywhere → a ≡ no_unit → replicate 8 a ≡ aca_cleared_in units place
+module _ (units : List unit.Unit) {place : Option ℕ} where
+  pub clear_all_units : {a : unit.Unit} → place ≡ None → a ≡ no_unit → replicate 8 a ≡ aca_cleared_in units place
   unfolding aca_cleared_in
   clear_all_units e h = rw (e, h)
 
-  module _ {u : ℕ} (e : place ≡ On u) where
+  module _ {u : ℕ} (e : place ≡ Some u) where
     pub clear_past : 8 ≤ u → units ≡ aca_cleared_in units place
     unfolding aca_cleared_in
     clear_past h = rw (e, le-ltb u 8 h)

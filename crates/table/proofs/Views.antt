@@ -10,6 +10,7 @@ use lib.Dec.{ltb}
 use lib.ListN.{length, get_or, set, length-map, length-set, get_or-map}
 use lib.Seq.{get_or-set_same, get_or-set_other, map-set_same}
 use borrow.Author.Tests.{lt-ltb}
+use Rattle.std.specs.Prelude.{Some, is_some}
 use Rattle.task.specs.Index.{map_at}
 use Rattle.task.specs.Tasks.{no_task, is_running, has_confirm, awaits}
 use Rattle.task.specs.Map.{is_live, lowest_free}
@@ -19,6 +20,7 @@ use Rattle.wire.specs.declared.codes.Kind.{Kind}
 use Rattle.task.specs.declared.Sequel.{Sequel}
 use Rattle.task.specs.declared.Task.{Task}
 use Rattle.task.specs.declared.select.Selection.{Selection}
+use Rattle.task.specs.declared.scan.Pick.{Pick}
 use Rattle.wire.proofs.Table.{cond_ind}
 use Rattle.task.proofs.Ways.{either_way, never, both}
 use Rattle.task.proofs.Places.{some_at, some_find}
@@ -309,14 +311,14 @@ module _ (t : Table) (s : Selection) where
   pub any_empty : t.live ≡ 0 → any_live t s ≡ false
   any_empty e = any_none (λ i a f. not_both (at_empty t i e) f.here)
 
-  pub pick_stands : Shaped t → (pick_of t s).found ≡ true → Stands t.live s t.tasks 64 (pick_of t s)
+  pub pick_stands : Shaped t → {p : Pick} → pick_of t s ≡ Some p → Stands t.live s t.tasks 64 p
   unfolding pick_of
-  pick_stands h e = subst (λ (n : ℕ). Stands t.live s t.tasks n (pick_of t s)) h.tasks (scan_stands t.live s t.tasks e)
+  pick_stands h {p} e = subst (λ (n : ℕ). Stands t.live s t.tasks n p) h.tasks (scan_stands t.live s t.tasks p e)
 
-  pub pick_at : Shaped t → (pick_of t s).found ≡ true → Found t s (pick_of t s).at (pick_of t s).task
-  pick_at h e = let r = pick_stands h e in rw r.task (found_at (pick_of t s).at r.below r.takes)
+  pub pick_at : Shaped t → {p : Pick} → pick_of t s ≡ Some p → Found t s p.at p.task
+  pick_at h {p} e = let r = pick_stands h e in rw r.task (found_at p.at r.below r.takes)
 
-  pub any_found : length t.tasks ≡ 64 → (pick_of t s).found ≡ any_live t s
+  pub any_found : length t.tasks ≡ 64 → is_some (pick_of t s) ≡ any_live t s
   unfolding pick_of any_live
   any_found e = rw (← e) (found_is_some t.live s t.tasks)
 

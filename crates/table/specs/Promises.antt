@@ -1,5 +1,5 @@
 -- What is promised of the table beside the contracts: what each change does to the tasks. Each is proved in proofs/.
-use Rattle.std.specs.Prelude.{ℕ, ◌+◌, ◌<◌, ◌≡◌, true, cond, List}
+use Rattle.std.specs.Prelude.{ℕ, ◌+◌, ◌<◌, ◌≡◌, true, cond, List, is_some}
 use Rattle.std.proofs.Math.Option.{some}
 use Rattle.std.specs.Int.Count.{ones}
 use Rattle.task.specs.Tasks.{runs}
@@ -16,7 +16,7 @@ use Rattle.table.specs.declared.Table.{Table}
 -- ---- some live task is picked exactly where the scan finds one
 
 abbrev pub AnyIsFound : Type 0
-AnyIsFound = (t : Table) (s : Selection) → Shaped t → (pick_of t s).found ≡ any_live t s
+AnyIsFound = (t : Table) (s : Selection) → Shaped t → is_some (pick_of t s) ≡ any_live t s
 
 -- ---- what a change does to the tasks: by their weight, for any weight of tasks
 

@@ -1,6 +1,6 @@
 -- One step of the records: what a call does to them, said as one value; what a finish leaves, as a step; who has a
 -- task of a selection, and on which units one of them runs.
-use Rattle.std.specs.Prelude.{ℕ, Bool, cond, ◌&&◌, List, eqb, ltb}
+use Rattle.std.specs.Prelude.{ℕ, Bool, cond, ◌&&◌, List, eqb, ltb, is_some}
 use Rattle.task.specs.Index.{some_below, map_of}
 use Rattle.task.specs.Map.{is_live}
 use Rattle.task.specs.Tasks.{is_running, has_confirm, runs, awaits, restarts}
@@ -51,7 +51,7 @@ abbrev pub holds_one : Table → Selection → ℕ → Bool
 holds_one t s p = some_below 64 (λ i. picks_at t s i && eqb (task_at t i).path p)
 
 unfoldable pub holders_of : Table → Selection → Holders
-holders_of t s = record { paths = map_of 64 (holds_one t s); found = (pick_of t s).found }
+holders_of t s = record { paths = map_of 64 (holds_one t s); found = is_some (pick_of t s) }
 
 -- ---- where a live task that is picked runs: the map of the units
 

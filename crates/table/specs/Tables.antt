@@ -1,5 +1,5 @@
 -- The task table: what it holds, what the rules ask of it, and how it changes. A bad index changes nothing.
-use Rattle.std.specs.Prelude.{ℕ, ◌+◌, ◌-◌, ◌/◌, ◌%◌, ◌^◌, Bool, true, false, cond, not, ◌&&◌, List, get_or, set, replicate, eqb, ltb, leb}
+use Rattle.std.specs.Prelude.{ℕ, ◌+◌, ◌-◌, ◌/◌, ◌%◌, ◌^◌, Bool, true, false, cond, not, ◌&&◌, List, get_or, set, replicate, eqb, ltb, leb, Option, Some, None}
 use Rattle.task.specs.Index.{first, some_below, map_of, map_at}
 use Rattle.task.specs.Tasks.{no_task, accepted_as, is_running, has_confirm, runs, awaits, restarts}
 use Rattle.task.specs.Map.{is_live, lowest_free, with_bit}
@@ -9,8 +9,6 @@ use Rattle.wire.specs.declared.codes.Kind.{Kind}
 use Rattle.task.specs.declared.Sequel.{Sequel}
 use Rattle.task.specs.declared.Task.{Task}
 use Rattle.task.specs.declared.select.Selection.{Selection}
-use Rattle.task.specs.declared.select.Place.{Place}
-use Rattle.task.specs.declared.select.Place.TheVariants.{Anywhere, On}
 use Rattle.task.specs.declared.scan.Pick.{Pick}
 use Rattle.table.specs.declared.Attention.{Attention}
 use Rattle.table.specs.declared.Attention.TheVariants as attention
@@ -95,7 +93,7 @@ picks_at t s i = picks_live t.live s i (task_at t i)
 unfoldable pub any_live : Table → Selection → Bool
 any_live t s = some_below 64 (picks_at t s)
 
-unfoldable pub pick_of : Table → Selection → Pick
+unfoldable pub pick_of : Table → Selection → Option Pick
 pick_of t s = scan t.live s t.tasks
 
 -- the last arrival number that a command can take
@@ -204,10 +202,10 @@ claimed_unit path a = record { aca = by_owner a.aca }
 unfoldable pub claimed_in : List unit.Unit → ℕ → ℕ → List unit.Unit
 claimed_in units unit path = cond (ltb unit 8) (set units unit (claimed_unit path (get_or units unit no_unit))) units
 
--- the unit's ACA goes, or that of every unit
-unfoldable pub aca_cleared_in : List unit.Unit → Place → List unit.Unit
-aca_cleared_in units Anywhere = replicate 8 no_unit
-aca_cleared_in units (On unit) = cond (ltb unit 8) (set units unit no_unit) units
+-- the unit's ACA goes, Some unit, or that of every unit, None
+unfoldable pub aca_cleared_in : List unit.Unit → Option ℕ → List unit.Unit
+aca_cleared_in units None = replicate 8 no_unit
+aca_cleared_in units (Some unit) = cond (ltb unit 8) (set units unit no_unit) units
 
 -- ---- finish and total reset
 

@@ -1,12 +1,11 @@
 -- Each public function's contract determines its answer: two answers that are each what it says are equal. Proved in
 -- proofs/Unique.antt.
-use Rattle.std.specs.Prelude.{ℕ, Bool, List}
+use Rattle.std.specs.Prelude.{ℕ, Bool, List, Option}
 use Rattle.wire.specs.Unique.{One}
 use Rattle.wire.specs.declared.codes.Kind.{Kind}
 use Rattle.task.specs.declared.Sequel.{Sequel}
 use Rattle.task.specs.declared.Task.{Task}
 use Rattle.task.specs.declared.select.Selection.{Selection}
-use Rattle.task.specs.declared.select.Place.{Place}
 use Rattle.table.specs.Tables.{zero_table, path_at, unit_at, task_at, bit_of, is_attached, is_nothing, is_reset, is_cleared, has_aca, owned_by, aca_at, place_of, path_of, pick_of, has_room}
 use Rattle.table.specs.Tables.{marked_in, attention_gone_in, reset_attention_in, cleared_attention_in, claimed_in, aca_cleared_in, others_on}
 use Rattle.table.specs.Tables.{accepted, ended_by, started, restarted, finished, reset_of}
@@ -34,7 +33,7 @@ pub record AnswersAreOne : Type 0 where
   pub give_reset_attention_is_one : (paths : List path.Path) (count : ℕ) (unmark : Bool) → One (reset_attention_in paths count unmark)
   pub give_cleared_attention_is_one : (paths : List path.Path) (others : ℕ) → One (cleared_attention_in paths others)
   pub claim_is_one : (units : List unit.Unit) (unit path : ℕ) → One (claimed_in units unit path)
-  pub clear_aca_is_one : (units : List unit.Unit) (place : Place) → One (aca_cleared_in units place)
+  pub clear_aca_is_one : (units : List unit.Unit) (place : Option ℕ) → One (aca_cleared_in units place)
   pub pick_is_one : (t : Table) (s : Selection) → One (pick_of t s)
   pub task_at_is_one : (t : Table) (i : ℕ) → One (task_at t i)
   pub has_room_is_one : (t : Table) → One (has_room t)

@@ -21,7 +21,7 @@ pub struct Holders {
 
 impl Table {
     // Of the live tasks that the selection picks, the one that goes next. The records are lent to the scan.
-    pub fn pick(self, s: Selection) -> Pick
+    pub fn pick(self, s: Selection) -> Option<Pick>
         ensures { result ≡ pick_of self s }
     {
         task::scan::next_of(&self.tasks, self.live, s)

@@ -4,7 +4,6 @@ ghost use Rattle.table.specs.Tables;
 ghost use Rattle.table.specs.Tables.{unit_at, is_attached, has_aca, owned_by, aca_at, claimed_in, aca_cleared_in};
 
 use crate::{Aca, Table, UNITS, Unit};
-use task::select::Place;
 
 // A unit wiped to zero.
 pub(crate) fn no_unit() -> Unit
@@ -67,14 +66,14 @@ pub fn claim(mut units: [Unit; UNITS], unit: u8, path: u8) -> [Unit; UNITS]
     }
 }
 
-// The unit's ACA goes, or that of every unit.
-pub fn clear_aca(mut units: [Unit; UNITS], place: Place) -> [Unit; UNITS]
+// The unit's ACA goes, Some(unit), or that of every unit, None.
+pub fn clear_aca(mut units: [Unit; UNITS], place: Option<u8>) -> [Unit; UNITS]
     ensures { result ≡ aca_cleared_in units place }
 {
     let none = no_unit();
     match place {
-        Place::Anywhere => [none; UNITS],
-        Place::On(unit) => {
+        None => [none; UNITS],
+        Some(unit) => {
             let u = unit as usize;
             if u >= UNITS {
                 return units;

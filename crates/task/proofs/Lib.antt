@@ -1,4 +1,4 @@
--- The laws that the crates above cite; the cases of this crate's own functions.
+-- The laws that the crates above cite.
 pub mod Ways
 pub mod Places
 pub mod Bits
@@ -12,4 +12,3 @@ pub mod Scanning
 pub mod Next
 pub mod Promises
 pub mod Unique
-mod Cases

@@ -6,6 +6,7 @@ use native.Mathlib.Nat.{le_antisymm}
 use native.Mathlib.Numerals.{add-one}
 use lib.ListN.{length, get_or, drop}
 use lib.Seq.{drop-cons, drop-length}
+use Rattle.std.specs.Prelude.{Option}
 use Rattle.task.specs.Tasks.{no_task}
 use Rattle.task.specs.Scan.{considered, scan_from}
 use Rattle.task.specs.declared.Task.{Task}
@@ -13,7 +14,7 @@ use Rattle.task.specs.declared.select.Selection.{Selection}
 use Rattle.task.specs.declared.scan.Pick.{Pick}
 
 -- what a loop over the records asks: one more is considered, and at the end nothing is left
-module _ (live : ℕ) (s : Selection) (best : Pick) (i : ℕ) (tasks : List Task) where
+module _ (live : ℕ) (s : Selection) (best : Option Pick) (i : ℕ) (tasks : List Task) where
   pub scan_step_or : (d : Task) → i < length tasks
       → scan_from live s best i (drop i tasks) ≡ scan_from live s (considered live s best i (get_or tasks i d)) (i + 1) (drop (i + 1) tasks)
   unfolding scan_from

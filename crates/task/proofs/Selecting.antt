@@ -19,9 +19,9 @@ use Rattle.task.proofs.Ways.{both}
 pub record Meets (s : Selection) (a : Task) : Type 0 where
   pub number : number_asked s.number a.arrival ≡ true
   pub whose : whose_asked s.whose a.path a.tag ≡ true
-  pub place : place_asked s.place a.unit ≡ true
-  pub sort : sort_asked s.sort a.kind ≡ true
-  pub stage : stage_asked s.stage a.phase ≡ true
+  pub place : place_asked s.unit a.unit ≡ true
+  pub sort : sort_asked s.kind a.kind ≡ true
+  pub stage : stage_asked s.phase a.phase ≡ true
 
 pub meets : (s : Selection) (a : Task) → picks s a ≡ true → Meets s a
 unfolding picks

@@ -1,6 +1,6 @@
 -- What the scan's answer is, said with no fold: nobody; or of the records that take part the HEAD OF QUEUE task with
 -- the highest arrival number; or, where none is one, the task with the lowest.
-use Rattle.std.specs.Prelude.{ℕ, ◌<◌, ◌≤◌, ◌≡◌, Bool, true, false, List, length, get_or}
+use Rattle.std.specs.Prelude.{ℕ, ◌<◌, ◌≤◌, ◌≡◌, Bool, true, false, List, length, get_or, Option, Some, None}
 use Rattle.task.specs.Tasks.{no_task, is_head}
 use Rattle.task.specs.Selections.{picks_live}
 use Rattle.task.specs.Scan.{scan}
@@ -19,18 +19,17 @@ module _ (live : ℕ) (s : Selection) (tasks : List Task) where
   abbrev pub head_at : ℕ → Bool
   head_at i = is_head (record_at i).kind
 
-  -- r names a record below n that takes part, and the task in it
-  pub record Stands (n : ℕ) (r : Pick) : Type 0 where
-    pub found : r.found ≡ true
-    pub below : r.at < n
-    pub takes : Takes r.at
-    pub task : r.task ≡ record_at r.at
+  -- p names a record below n that takes part, and the task in it
+  pub record Stands (n : ℕ) (p : Pick) : Type 0 where
+    pub below : p.at < n
+    pub takes : Takes p.at
+    pub task : p.task ≡ record_at p.at
 
   -- r is the right answer for the records below n
-  pub data Next (n : ℕ) (r : Pick) : Type 0 where
-    no_one : r.found ≡ false → ((i : ℕ) → i < n → Takes i → ⊥) → Next n r
-    highest_head : Stands n r → is_head r.task.kind ≡ true → ((i : ℕ) → i < n → Takes i → head_at i ≡ true → (record_at i).arrival ≤ r.task.arrival) → Next n r
-    lowest : Stands n r → is_head r.task.kind ≡ false → ((i : ℕ) → i < n → Takes i → (head_at i ≡ false) × (r.task.arrival ≤ (record_at i).arrival)) → Next n r
+  pub data Next (n : ℕ) (r : Option Pick) : Type 0 where
+    no_one : r ≡ None → ((i : ℕ) → i < n → Takes i → ⊥) → Next n r
+    highest_head : (p : Pick) → r ≡ Some p → Stands n p → is_head p.task.kind ≡ true → ((i : ℕ) → i < n → Takes i → head_at i ≡ true → (record_at i).arrival ≤ p.task.arrival) → Next n r
+    lowest : (p : Pick) → r ≡ Some p → Stands n p → is_head p.task.kind ≡ false → ((i : ℕ) → i < n → Takes i → (head_at i ≡ false) × (p.task.arrival ≤ (record_at i).arrival)) → Next n r
 
 -- the scan's answer is right for all records
 abbrev pub ScanIsNext : Type 0

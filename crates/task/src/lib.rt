@@ -3,7 +3,7 @@
 #![tactic(auto)]
 
 ghost use Rattle.std.specs.Prelude.{◌≡◌};
-ghost use Rattle.task.specs.Tasks.{no_task, kind_number, phase_number, is_aca, is_waiting, is_running, is_end, has_confirm};
+ghost use Rattle.task.specs.Tasks.{no_task, is_aca, is_waiting, is_running, is_end, has_confirm};
 
 pub mod map;
 pub mod scan;
@@ -17,7 +17,7 @@ pub const RECORDS: usize = 64;
 
 // Unconfirmed: the device has finished, and the task waits to be confirmed. The first is the zero of a wiped record,
 // here and in Sequel.
-#[derive(Clone, Copy)]
+#[derive(Clone, Copy, PartialEq, Eq)]
 pub enum Phase {
     Waiting,
     Running,
@@ -26,7 +26,7 @@ pub enum Phase {
 
 // What follows a finish: the task ends, or with CONFIRM it waits to be confirmed. One enum, since CONFIRM and LINK
 // (M-112) never go together.
-#[derive(Clone, Copy)]
+#[derive(Clone, Copy, PartialEq, Eq)]
 pub enum Sequel {
     End,
     Confirm,
@@ -64,73 +64,32 @@ pub fn no_task() -> Task
     }
 }
 
-// The number of a kind in QUEUE CNTL.
-pub(crate) fn kind_number(k: Kind) -> u8
-    ensures { result ≡ kind_number k }
-{
-    match k {
-        Kind::Aca => 0,
-        Kind::Head => 1,
-        Kind::Ordered => 2,
-        Kind::Simple => 3,
-    }
-}
-
-pub(crate) fn phase_number(p: Phase) -> u8
-    ensures { result ≡ phase_number p }
-{
-    match p {
-        Phase::Waiting => 0,
-        Phase::Running => 1,
-        Phase::Unconfirmed => 2,
-    }
-}
-
 pub fn is_aca(k: Kind) -> bool
     ensures { result ≡ is_aca k }
 {
-    match k {
-        Kind::Aca => true,
-        Kind::Head => false,
-        Kind::Ordered => false,
-        Kind::Simple => false,
-    }
+    k == Kind::Aca
 }
 
 pub fn is_waiting(p: Phase) -> bool
     ensures { result ≡ is_waiting p }
 {
-    match p {
-        Phase::Waiting => true,
-        Phase::Running => false,
-        Phase::Unconfirmed => false,
-    }
+    p == Phase::Waiting
 }
 
 pub fn is_running(p: Phase) -> bool
     ensures { result ≡ is_running p }
 {
-    match p {
-        Phase::Waiting => false,
-        Phase::Running => true,
-        Phase::Unconfirmed => false,
-    }
+    p == Phase::Running
 }
 
 pub fn is_end(s: Sequel) -> bool
     ensures { result ≡ is_end s }
 {
-    match s {
-        Sequel::End => true,
-        Sequel::Confirm => false,
-    }
+    s == Sequel::End
 }
 
 pub fn has_confirm(s: Sequel) -> bool
     ensures { result ≡ has_confirm s }
 {
-    match s {
-        Sequel::End => false,
-        Sequel::Confirm => true,
-    }
+    s == Sequel::Confirm
 }

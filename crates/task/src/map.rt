@@ -5,6 +5,7 @@ ghost use Rattle.task.specs.Map.{is_live, lowest_free, live_count, with_bit, wit
 use crate::RECORDS;
 
 // The lowest place whose bit is 0, or 64.
+#[tactic(auto, using(crate::proofs::Bits::trailing_first), unfolding(crate::specs::Map::lowest_free))]
 pub fn lowest_free(live: u64) -> usize
     ensures { result ≡ lowest_free live }
 {
@@ -12,6 +13,7 @@ pub fn lowest_free(live: u64) -> usize
 }
 
 // How many records are live.
+#[tactic(auto, using(crate::proofs::Bits::ones_count), unfolding(crate::specs::Map::live_count))]
 pub fn live_count(live: u64) -> u32
     ensures { result ≡ live_count live }
 {
@@ -37,6 +39,7 @@ pub fn is_live(live: u64, i: usize) -> bool
 }
 
 // The map with bit i set; past 63 the map as it is.
+#[tactic(auto, unfolding(crate::specs::Map::with_bit))]
 pub fn with_bit(live: u64, i: usize) -> u64
     ensures { result ≡ with_bit live i }
 {
@@ -47,6 +50,7 @@ pub fn with_bit(live: u64, i: usize) -> u64
 }
 
 // The map with bit i cleared; past 63 the map as it is.
+#[tactic(auto, unfolding(crate::specs::Map::without_bit))]
 pub fn without_bit(live: u64, i: usize) -> u64
     ensures { result ≡ without_bit live i }
 {

@@ -1,10 +1,7 @@
 -- The state of the scan's loop: what is left to scan gives what the whole scan gives. Assumes nothing.
-use Rattle.std.proofs.Common.{◌≡◌, ◌-◌, ◌≤◌, length, drop}
+use Rattle.std.proofs.Common.{◌≡◌, drop}
 use Rattle.task.specs.Scan.{scan_from, scan}
 use Rattle.task.proofs.scan.next_of.Given as goal
 
 abbrev pub invariant-loop-i : goal.invariant-loop-i
-invariant-loop-i l = (l.i ≤ length l.tasks) × (scan l.live l.s l.tasks ≡ scan_from l.live l.s l.best l.i (drop l.i l.tasks))
-
-abbrev pub decreases-loop-i : goal.decreases-loop-i
-decreases-loop-i l = length l.tasks - l.i
+invariant-loop-i l = scan l.live l.s l.tasks ≡ scan_from l.live l.s l.best l.i (drop l.i l.tasks)
