@@ -62,7 +62,7 @@ fn reply_to(a: Answer, reply: &mut [u8])
 {
     match a {
         Answer::Reply(r) => {
-            reply::write(r, reply);
+            let _ = reply::write(r, reply);
         }
         _ => {}
     }
