@@ -1,6 +1,6 @@
 // The letters: what each case asks of the readers and the writer, and what they say.
 use crate::print::{decimal, flag, hex, hex_long, hex_word, pairs, pairs_filled, text, word_if};
-use reply::{Found, Reply, Written};
+use reply::Reply;
 use std::io;
 use wire::block::{command_block, cut_short, is_linked, no_length};
 use wire::codes::{Refusal, ReturnCode, Sense, StatusByte};
@@ -136,11 +136,11 @@ fn block(rt: &impl Print, m: &[u8]) -> io::Result<()> {
 // Writes a reply into a buffer, and shows the answer and the whole buffer.
 fn write_into(rt: &impl Print, buffer: &mut [u8], r: Reply) -> io::Result<()> {
     match reply::write(r, buffer) {
-        Written::Bytes(n) => {
+        Ok(n) => {
             text(rt, b"written ")?;
             decimal(rt, n)?;
         }
-        Written::Refused(why) => refused(rt, why)?,
+        Err(why) => refused(rt, why)?,
     }
     text(rt, b" buffer")?;
     pairs_filled(rt, buffer, FILL)
@@ -231,16 +231,16 @@ fn reply_fields(rt: &impl Print, r: Reply) -> io::Result<()> {
 // Letter r: the reply reader.
 fn read_reply(rt: &impl Print, b: &[u8]) -> io::Result<()> {
     match reply::read(b) {
-        Found::Reply(r) => reply_fields(rt, r),
-        Found::Refused(why) => refused(rt, why),
+        Ok(r) => reply_fields(rt, r),
+        Err(why) => refused(rt, why),
     }
 }
 
 // What the reader says of a damaged reply: the number of the refusal alone, or the reply.
 fn verdict(rt: &impl Print, b: &[u8]) -> io::Result<()> {
     match reply::read(b) {
-        Found::Reply(r) => reply_fields(rt, r),
-        Found::Refused(why) => decimal(rt, why.0 as usize),
+        Ok(r) => reply_fields(rt, r),
+        Err(why) => decimal(rt, why.0 as usize),
     }
 }
 

@@ -60,7 +60,7 @@ fn reply_to(a: Result<Answer, Refusal>, reply: &mut [u8])
 {
     match a {
         Ok(Answer::Reply(r)) => {
-            reply::write(r, reply);
+            let _ = reply::write(r, reply);
         }
         _ => {}
     }

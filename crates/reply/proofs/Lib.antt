@@ -1,5 +1,4 @@
 -- Laws of the crate, and the promises.
-mod Front
 mod Cases
 pub mod Promises
 pub mod Past

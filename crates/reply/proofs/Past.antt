@@ -1,32 +1,27 @@
 -- Bytes past a reply are not read.
 -- Assumes nothing.
 use Prim.Native.Nat.{ℕ, ◌≤◌, ◌<◌}
+use Rattle.std.proofs.Common.{Err}
 use mathlib.Core.Path.{◌≡◌, refl, sym, ◌∙◌}
-use mathlib.Core.List.{List, [], ◌∷◌, ◌++◌}
+use mathlib.Core.List.{List, ◌++◌}
 use lib.ListN.{length}
 use lib.Dec.{eqb, lit<}
 use native.Mathlib.Omega.{arith}
+use Rattle.std.proofs.lemmas.List.{take-append-le}
 use Rattle.wire.specs.Codes.{too_short, return_code, invalid_field, status_byte, sense}
 use Rattle.wire.specs.Fields.{byte, word}
 use Rattle.wire.proofs.Table.{cond_ind}
 use Rattle.wire.proofs.Past.{same, longer}
 use Rattle.reply.specs.Replies.{bytes_of, response_length, status_length}
-use Rattle.reply.specs.Calls.{starts_with, fitted, as_response, as_status, found_in}
+use Rattle.reply.specs.Calls.{fitted, as_response, as_status, found_in}
 use Rattle.reply.specs.Promises.{PastIsNotRead}
 use Rattle.reply.specs.declared.Reply.{Reply}
-use Rattle.reply.specs.declared.Found.TheVariants as found
 use Rattle.reply.proofs.Cases.{not_ours, whole_response, whole_status, other, each_finding}
 use Rattle.reply.proofs.Promises.{response_length_law, status_length_law, invalid_length}
 
-starts_same : (xs ys rest : List ℕ) → length xs ≤ length ys → starts_with xs (ys ++ rest) ≡ starts_with xs ys
-unfolding starts_with
-starts_same [] ys rest h = refl
-starts_same (x ∷ xs) [] rest h = absurd (omega arith)
-starts_same (x ∷ xs) (y ∷ ys) rest h = rw (starts_same xs ys rest (omega arith))
-
 fitted_same : (r : Reply) (b rest : List ℕ) → length (bytes_of r) ≤ length b → fitted r b ≡ fitted r (b ++ rest)
 unfolding fitted
-fitted_same r b rest h = rw (starts_same (bytes_of r) b rest h)
+fitted_same r b rest h = rw (take-append-le (length (bytes_of r)) b rest h)
 
 module _ (b rest : List ℕ) where
   response_same : response_length ≤ length b → as_response b ≡ as_response (b ++ rest)
@@ -61,10 +56,10 @@ module _ (b rest : List ℕ) where
     s3p_not : {n : ℕ} → (byte b 1 ≡ n → ⊥) → byte (b ++ rest) 1 ≡ n → ⊥
     s3p_not x e = x (sym s3p ∙ e)
 
-  past : (found_in b ≡ found.Refused too_short → ⊥) → found_in (b ++ rest) ≡ found_in b
+  past : (found_in b ≡ Err too_short → ⊥) → found_in (b ++ rest) ≡ found_in b
   past =
       let w : List ℕ = b ++ rest in
-      each_finding (λ f. (f ≡ found.Refused too_short → ⊥) → found_in w ≡ f) b (λ n. absurd (n refl))
+      each_finding (λ f. (f ≡ Err too_short → ⊥) → found_in w ≡ f) b (λ n. absurd (n refl))
       (λ h n _. sym (not_ours w (two h) (λ e. n (sym (sms h) ∙ e))))
       (λ h e k l _. sym (whole_response w (two h) (sms h ∙ e) (s3p h ∙ k) (longer b rest response_length l) (response_same l) (fits_response l)))
       (λ h e x k l _. sym (whole_status w (two h) (sms h ∙ e) (s3p_not h x) (s3p h ∙ k) (longer b rest status_length l) (status_same l) (fits_status l)))

@@ -1,15 +1,19 @@
 -- Reading gives back what was written, and writing what was read; a refusal leaves the buffer; no reply is longer
 -- than 64 bytes. Assumes nothing.
 use Prim.Native.Nat.{ℕ, ◌/◌, ◌%◌}
+use Rattle.std.proofs.Common.{Result, Ok, Err}
 use mathlib.Core.Path.{◌≡◌, refl, sym, ap, ◌∙◌}
-use mathlib.Core.Bool.{Bool, true, false, cond, ◌&&◌, and-eq-true_iff, false≢true}
-use mathlib.Core.List.{List, [], ◌∷◌, ◌++◌}
-use lib.ListN.{length, take, length-append}
+use mathlib.Core.Bool.{Bool, true, false, cond, ◌&&◌, and-eq-true_iff}
+use mathlib.Core.List.{List, ◌∷◌, ◌++◌}
+use lib.ListN.{length, take, drop, length-append}
 use lib.Dec.{eqb, ltb}
 use lib.Seq.{take-append_seam}
-use borrow.Author.Tests.{le-ltb, eq-eqb, eqb-true, eqb-false}
+use borrow.Author.Tests.{le-ltb, eqb-true, eqb-false}
 use native.Mathlib.Nat.{div-add-mod'}
 use native.Mathlib.Omega.{arith}
+use Rattle.std.proofs.lemmas.Bool.Decides.{Decides-eqb}
+use Rattle.std.proofs.lemmas.Slice.Eq.{starts_is}
+use Rattle.std.specs.List.{starts_with}
 use Rattle.wire.specs.Codes.{too_short, not_handled, small_buffer, not_writable, reply_room}
 use Rattle.wire.specs.Codes.{sms_code, scsi_status, check_condition, sense, no_sense}
 use Rattle.wire.specs.declared.codes.Refusal.{Refusal}
@@ -18,26 +22,17 @@ use Rattle.wire.specs.declared.codes.StatusByte.{StatusByte}
 use Rattle.wire.specs.declared.codes.Sense.{Sense}
 use Rattle.wire.proofs.Table.{cond_ind}
 use Rattle.reply.specs.Replies.{is_none, writable_of, bytes_of, response_length, status_length}
-use Rattle.reply.specs.Calls.{written_of, left_of, placed, starts_with, fitted, as_response, as_status, found_in}
+use Rattle.reply.specs.Calls.{written_of, left_of, placed, fitted, as_response, as_status, found_in}
 use Rattle.reply.specs.Promises.{ReadsWhatWasWritten, WritesWhatWasRead, RefusalLeavesTheBuffer, NoReplyIsLonger}
 use Rattle.reply.specs.declared.Reply.{Reply}
 use Rattle.reply.specs.declared.Reply.TheVariants.{Response, Status, Invalid}
-use Rattle.reply.specs.declared.Written.TheVariants as written
-use Rattle.reply.specs.declared.Found.{Found}
-use Rattle.reply.specs.declared.Found.TheVariants as found
 use Rattle.reply.proofs.Cases.{whole_response, whole_status, each_finding}
 
 -- ---- reading what was written
 
--- a list stands at the front of itself with more after it
-starts_self : (xs rest : List ℕ) → starts_with xs (xs ++ rest) ≡ true
-unfolding starts_with
-starts_self [] rest = refl
-starts_self (x ∷ xs) rest = rw (eq-eqb x x refl, starts_self xs rest)
-
-fits_itself : (r : Reply) (rest : List ℕ) → writable_of r ≡ true → found.Reply r ≡ fitted r (bytes_of r ++ rest)
+fits_itself : (r : Reply) (rest : List ℕ) → writable_of r ≡ true → Ok r ≡ fitted r (bytes_of r ++ rest)
 unfolding fitted
-fits_itself r rest w = rw (w, starts_self)
+fits_itself r rest w = rw (w, (starts_is Decides-eqb (bytes_of r ++ rest) (bytes_of r) _ refl).1 rest refl)
 
 -- the fields of a reply's bytes are its own
 response_fields : (t : ℕ) (c : ReturnCode) (rest : List ℕ) → Response t c ≡ as_response (bytes_of (Response t c) ++ rest)
@@ -81,7 +76,7 @@ no_reply_is_longer (Response t c) = omega (arith, response_length_law t c)
 no_reply_is_longer (Status t x s) = omega (arith, status_length_law t x s)
 no_reply_is_longer (Invalid t) = omega (arith, invalid_length t)
 
-read_back : (r : Reply) (rest : List ℕ) → writable_of r ≡ true → found.Reply r ≡ found_in (bytes_of r ++ rest)
+read_back : (r : Reply) (rest : List ℕ) → writable_of r ≡ true → Ok r ≡ found_in (bytes_of r ++ rest)
 unfolding bytes_of
 read_back (Response t c) rest w =
     whole_response _ (omega arith) refl refl (omega arith) (response_fields t c rest) (fits_itself (Response t c) rest w)
@@ -93,18 +88,14 @@ read_back (Invalid t) rest w =
     (invalid_fields t rest) (fits_itself (Invalid t) rest w)
 
 -- the writer's answer says which way it went
-module _ (n : ℕ) (k : Refusal) where
-  clash : {A : Type 0} → written.Bytes n ≡ written.Refused k → A
-  clash e = let z : ◌≡◌ {A = ℕ} 0 1 = cc in absurd (omega arith)
-
-wrote : (a b : Bool) (n k : ℕ) (x y : List ℕ) → written.Bytes n ≡ cond a (written.Refused small_buffer) (cond b (written.Bytes k) (written.Refused not_writable)) → (b ≡ true) × (cond a x (cond b y x) ≡ y)
-wrote true b n k x y e = clash n small_buffer e
+wrote : (a b : Bool) (n k : ℕ) (x y : List ℕ) → Ok n ≡ cond a (Err small_buffer) (cond b (Ok k) (Err not_writable)) → (b ≡ true) × (cond a x (cond b y x) ≡ y)
+wrote true b n k x y e = absurd cc
 wrote false true n k x y e = (refl, refl)
-wrote false false n k x y e = clash n not_writable e
+wrote false false n k x y e = absurd cc
 
-kept : (a b : Bool) (n : Refusal) (k : ℕ) (x y : List ℕ) → written.Refused n ≡ cond a (written.Refused small_buffer) (cond b (written.Bytes k) (written.Refused not_writable)) → cond a x (cond b y x) ≡ x
+kept : (a b : Bool) (n : Refusal) (k : ℕ) (x y : List ℕ) → Err n ≡ cond a (Err small_buffer) (cond b (Ok k) (Err not_writable)) → cond a x (cond b y x) ≡ x
 kept true b n k x y e = refl
-kept false true n k x y e = clash k n (sym e)
+kept false true n k x y e = absurd cc
 kept false false n k x y e = refl
 
 pub reads_what_was_written : ReadsWhatWasWritten
@@ -120,29 +111,21 @@ refusal_leaves_the_buffer r buf left n w =
 
 -- ---- writing what was read
 
-starts_front : (xs ys : List ℕ) → starts_with xs ys ≡ true → take (length xs) ys ≡ xs
-unfolding starts_with
-starts_front [] ys e = refl
-starts_front (x ∷ xs) [] e = absurd (false≢true e)
-starts_front (x ∷ xs) (y ∷ ys) e =
-    let p = (and-eq-true_iff (eqb x y) (starts_with xs ys)).0 e in
-    let h : x ≡ y = eqb-true x y p.0 in
-    rw (h, starts_front xs ys p.1)
-
 -- where r is found, it can be written, and its bytes are there
-abbrev Good : List ℕ → Reply → Found → Type 0
-Good b r f = f ≡ found.Reply r → (writable_of r ≡ true) × (take (length (bytes_of r)) b ≡ bytes_of r)
+abbrev Good : List ℕ → Reply → (Result Reply Refusal) → Type 0
+Good b r f = f ≡ Ok r → (writable_of r ≡ true) × (take (length (bytes_of r)) b ≡ bytes_of r)
 
 module _ (b : List ℕ) (r : Reply) where
-  no : (n : Refusal) → Good b r (found.Refused n)
-  no n e = let z : ◌≡◌ {A = ℕ} 0 1 = cc in absurd (omega arith)
+  no : (n : Refusal) → Good b r (Err n)
+  no n e = absurd cc
 
   yes : (s : Reply) → Good b r (fitted s b)
   unfolding fitted
-  yes s = cond_ind (Good b r) (writable_of s && starts_with (bytes_of s) b) (λ h e.
+  yes s = cond_ind (Good b r) (writable_of s && starts_with eqb b (bytes_of s)) (λ h e.
       let q : s ≡ r = cc in
       let p = (and-eq-true_iff (writable_of s) _).0 h in
-      rw (← q) (p.0, starts_front (bytes_of s) b p.1))
+      let front : b ≡ bytes_of s ++ drop (length (bytes_of s)) b = (starts_is Decides-eqb b (bytes_of s) _ refl).0 p.1 in
+      rw (← q) (p.0, ap (take (length (bytes_of s))) front ∙ take-append_seam (bytes_of s) _))
       (λ _. no not_writable)
 
 stands_there : (b : List ℕ) (r : Reply) → Good b r (found_in b)

@@ -1,23 +1,21 @@
 -- The reply writer and the reply reader.
-use Rattle.std.specs.Prelude.{ℕ, ◌≡◌, List, [], ◌∷◌, ◌++◌, Bool, true, false, cond, not, ◌&&◌, length, drop, ltb, eqb}
+use Rattle.std.specs.Prelude.{ℕ, ◌≡◌, List, ◌++◌, cond, not, ◌&&◌, length, drop, ltb, eqb, Result, Ok, Err}
+use Rattle.std.specs.List.{starts_with}
 use Rattle.wire.specs.Codes.{too_short, not_handled, small_buffer, not_writable, reply_room}
 use Rattle.wire.specs.Codes.{sms_code, scsi_response, scsi_status, return_code, invalid_field, status_byte, sense}
+use Rattle.wire.specs.declared.codes.Refusal.{Refusal}
 use Rattle.wire.specs.Fields.{byte, word}
 use Rattle.reply.specs.Replies.{writable_of, bytes_of, response_length, status_length}
 use Rattle.reply.specs.declared.Reply.{Reply}
 use Rattle.reply.specs.declared.Reply.TheVariants.{Response, Status, Invalid}
-use Rattle.reply.specs.declared.Written.{Written}
-use Rattle.reply.specs.declared.Written.TheVariants as written
-use Rattle.reply.specs.declared.Found.{Found}
-use Rattle.reply.specs.declared.Found.TheVariants as found
 
 -- ---- the writer: 5, then 14
 
 -- the number of bytes written, or the refusal
-unfoldable pub written_of : Reply → List ℕ → Written
+unfoldable pub written_of : Reply → List ℕ → Result ℕ Refusal
 written_of r buf =
-    cond (ltb (length buf) reply_room) (written.Refused small_buffer)
-    (cond (writable_of r) (written.Bytes (length (bytes_of r))) (written.Refused not_writable))
+    cond (ltb (length buf) reply_room) (Err small_buffer)
+    (cond (writable_of r) (Ok (length (bytes_of r))) (Err not_writable))
 
 -- the reply at the front of the buffer; bytes after it keep their values
 abbrev pub placed : List ℕ → List ℕ → List ℕ
@@ -28,21 +26,15 @@ unfoldable pub left_of : Reply → List ℕ → List ℕ
 left_of r buf = cond (ltb (length buf) reply_room) buf (cond (writable_of r) (placed (bytes_of r) buf) buf)
 
 -- the contract of `write`: the answer w, and the buffer as it is left
-pub record Writes (r : Reply) (buf : List ℕ) (w : Written) (left : List ℕ) : Type 0 where
+pub record Writes (r : Reply) (buf : List ℕ) (w : Result ℕ Refusal) (left : List ℕ) : Type 0 where
   pub answer : w ≡ written_of r buf
   pub buffer : left ≡ left_of r buf
 
 -- ---- the reader: 1 if under 2 bytes, 2, 1 if under the shortest such reply, 14
 
--- xs stands at the front of ys
-unfoldable pub starts_with : List ℕ → List ℕ → Bool
-starts_with [] ys = true
-starts_with (x ∷ xs) [] = false
-starts_with (x ∷ xs) (y ∷ ys) = eqb x y && starts_with xs ys
-
 -- the reader wants one at the start of its bytes: r can be written, and these are its bytes
-unfoldable pub fitted : Reply → List ℕ → Found
-fitted r b = cond (writable_of r && starts_with (bytes_of r) b) (found.Reply r) (found.Refused not_writable)
+unfoldable pub fitted : Reply → List ℕ → Result Reply Refusal
+fitted r b = cond (writable_of r && starts_with eqb b (bytes_of r)) (Ok r) (Err not_writable)
 
 -- the fields of a RESPONSE (table 20) and of a STATUS (tables 7 and 10), whose RETURN CODE at 6 is FFh for an invalid
 -- command
@@ -54,10 +46,10 @@ as_status b =
     cond (eqb (byte b 6) invalid_field.0) (Invalid (word b 2))
     (Status (word b 2) (status_byte (byte b 4)) (sense (byte b 10) (byte b 20) (byte b 21)))
 
-unfoldable pub found_in : List ℕ → Found
+unfoldable pub found_in : List ℕ → Result Reply Refusal
 found_in b =
-    cond (ltb (length b) 2) (found.Refused too_short)
-    (cond (not (eqb (byte b 0) sms_code)) (found.Refused not_handled)
-    (cond (eqb (byte b 1) scsi_response) (cond (ltb (length b) response_length) (found.Refused too_short) (fitted (as_response b) b))
-    (cond (eqb (byte b 1) scsi_status) (cond (ltb (length b) status_length) (found.Refused too_short) (fitted (as_status b) b))
-    (found.Refused not_handled))))
+    cond (ltb (length b) 2) (Err too_short)
+    (cond (not (eqb (byte b 0) sms_code)) (Err not_handled)
+    (cond (eqb (byte b 1) scsi_response) (cond (ltb (length b) response_length) (Err too_short) (fitted (as_response b) b))
+    (cond (eqb (byte b 1) scsi_status) (cond (ltb (length b) status_length) (Err too_short) (fitted (as_status b) b))
+    (Err not_handled))))

@@ -80,7 +80,7 @@ impl Refusal {
 }
 
 // The RETURN CODE of a SCSI RESPONSE (003, table 21); of a SCSI STATUS (table 9) the first and the last alone.
-#[derive(Clone, Copy)]
+#[derive(Clone, Copy, PartialEq, Eq)]
 pub struct ReturnCode(pub u8);
 
 impl ReturnCode {
@@ -96,7 +96,7 @@ impl ReturnCode {
 }
 
 // The STATUS of a SCSI STATUS, as SCSI-3 defines it.
-#[derive(Clone, Copy)]
+#[derive(Clone, Copy, PartialEq, Eq)]
 pub struct StatusByte(pub u8);
 
 impl StatusByte {
@@ -114,7 +114,7 @@ impl StatusByte {
 }
 
 // What the sense data says (003, table 10): SENSE KEY, ADDITIONAL SENSE CODE and its qualifier.
-#[derive(Clone, Copy)]
+#[derive(Clone, Copy, PartialEq, Eq)]
 pub struct Sense {
     pub key: u8,
     pub code: u8,
