@@ -1,48 +1,47 @@
--- The header as the program reads it, which keeps nine ids, says what the readable header says.
+-- The header as the program reads it is the heading with nine of its ids, so it says what the heading says.
 -- Assumes nothing.
-use Prim.Native.Nat.{ℕ, zero, suc, ◌+◌, ◌≤◌, ◌<◌}
-use mathlib.Core.Path.{◌≡◌, refl, sym, ap, ◌∙◌}
-use mathlib.Core.Bool.{true, or-true, false≢true}
-use mathlib.Core.List.{List, [], ◌∷◌, ◌++◌, append-nil}
-use lib.ListN.{length, take, set, replicate, length-set}
-use lib.Seq.{append_snoc, take-suc-set, length-take-le}
+use Rattle.std.proofs.Common.{ℕ, Bool, false, zero, suc, ◌≤◌, ◌<◌, ◌≡◌, refl, sym, ap, ◌∙◌, true, List, [], ◌∷◌, ◌++◌, append-nil, length, take, length-append, arith}
+use Rattle.std.proofs.lemmas.List.{take_all, take-append-le, length-take, length-take-le}
+use mathlib.Core.Bool.{or-true, false≢true}
+use lib.Seq.{append_snoc}
 use lib.Dec.{ltb, eqb}
-use native.Mathlib.Nat.{add-zero, zero-add}
-use native.Mathlib.Numerals.{add-one}
-use native.Mathlib.Omega.{arith}
 use borrow.Author.Tests.{ltb-true, ltb-false, lt-ltb}
+use Rattle.std.specs.Prelude.{Option, None, Some}
+use Rattle.std.proofs.lemmas.Option.{none-some, same_Some}
+use Rattle.arrayvec.specs.ArrayVec.{ArrayVec}
 use Rattle.table.specs.Setup.{bad_list}
-use Rattle.wire.proofs.Table.{cond_ind}
 use Rattle.input.specs.Numbers.{number_at, byte_at, id_at, given}
-use Rattle.input.specs.Header.{Heading, malformed, ids_then, heading_of}
-use Rattle.input.specs.Reading.{no_ids, kept_at, least_of_nine, ids_from, after_ids, header_of}
+use Rattle.input.specs.Header.{Heading, malformed, heading, ids_then, heading_of}
+use Rattle.input.specs.Reading.{kept_with, ids_from, header_of}
 use Rattle.input.specs.Promises.{Alike, Says}
-use Rattle.input.specs.declared.number.Number.{Number}
-use Rattle.input.specs.declared.number.Number.TheVariants as number
-use Rattle.input.specs.declared.header.Ids.{Ids}
 use Rattle.input.specs.declared.header.Header.{Header}
 
--- ---- the ids that are kept
+-- ---- nine of the ids
 
--- ids kept from place i on
-abbrev kept_all : List ℕ → ℕ → List ℕ → List ℕ
-kept_all a i [] = a
-kept_all a i (x ∷ xs) = kept_all (kept_at a i x) (i + 1) xs
+abbrev nine_of : List ℕ → ArrayVec ℕ
+nine_of ids = record { items = take 9 ids }
 
-kept_length : (a : List ℕ) (i x : ℕ) → length (kept_at a i x) ≡ length a
-kept_length a i x = cond_ind (λ (l : List ℕ). length l ≡ length a) (ltb i 9) (λ t. length-set a i x) (λ t. refl)
+few_kept : (ids : List ℕ) → length ids < 9 → take 9 ids ≡ ids
+few_kept ids h = take_all 9 ids (omega arith)
 
-all_length : (a : List ℕ) (i : ℕ) (ids : List ℕ) → length (kept_all a i ids) ≡ length a
-all_length a i [] = refl
-all_length a i (x ∷ xs) = all_length (kept_at a i x) (i + 1) xs ∙ kept_length a i x
+many_kept : (ids : List ℕ) → 9 ≤ length ids → length (take 9 ids) ≡ 9
+many_kept ids h = length-take-le 9 ids h
 
--- nine at most are kept as they are
-all_kept : (a : List ℕ) (i : ℕ) (ids : List ℕ) → length a ≡ 9 → i + length ids ≤ 9 → take (i + length ids) (kept_all a i ids) ≡ take i a ++ ids
-all_kept a i [] h l = simp (add-zero, append-nil)
-all_kept a i (x ∷ xs) h l =
-    let e : i + suc (length xs) ≡ i + 1 + length xs = omega arith in
-    rw (e, lt-ltb i 9 (omega arith))
-    (all_kept (set a i x) (i + 1) xs (length-set a i x ∙ h) (omega arith) ∙ rw (add-one i, take-suc-set a i x (omega arith)) (append_snoc (take i a) x xs))
+nine_at_most : (ids : List ℕ) → length (take 9 ids) ≤ 9
+nine_at_most ids = omega (arith, length-take 9 ids)
+
+-- nine of so many, and one more, are nine of all
+kept_next : (ids : List ℕ) (id : ℕ) → kept_with (take 9 ids) id ≡ take 9 (ids ++ id ∷ [])
+kept_next ids id = by_length (ltb (length ids) 9) refl
+  where
+    by_length : (b : Bool) → ltb (length ids) 9 ≡ b → kept_with (take 9 ids) id ≡ take 9 (ids ++ id ∷ [])
+    by_length true t =
+        let few : length ids < 9 = ltb-true _ _ t in
+        let room : length (ids ++ id ∷ []) ≤ 9 = simp length-append (omega arith) in
+        rw (few_kept ids few, lt-ltb _ _ few, take_all 9 (ids ++ id ∷ []) room)
+    by_length false t =
+        let many : 9 ≤ length ids = ltb-false _ _ t in
+        rw (many_kept ids many, take-append-le 9 ids (id ∷ []) many)
 
 -- ---- lists of ids
 
@@ -50,71 +49,71 @@ long_bad : (ids : List ℕ) → 8 < length ids → bad_list ids ≡ true
 unfolding bad_list
 long_bad ids h = rw (lt-ltb _ _ h) (or-true (eqb (length ids) 0))
 
-alike : (ids : List ℕ) → Alike (take (least_of_nine (length ids)) (kept_all (replicate 9 0) 0 ids)) ids
-alike ids =
-    cond_ind (λ (n : ℕ). Alike (take n (kept_all (replicate 9 0) 0 ids)) ids) (ltb (length ids) 9)
-    (λ t. few (ltb-true _ _ t))
-    (λ t. many (ltb-false _ _ t))
+alike : (ids : List ℕ) → Alike (take 9 ids) ids
+alike ids = by_length (ltb (length ids) 9) refl
   where
-    few : length ids < 9 → Alike (take (length ids) (kept_all (replicate 9 0) 0 ids)) ids
-    few h =
-        let e : take (length ids) (kept_all (replicate 9 0) 0 ids) ≡ ids = simp zero-add at (all_kept (replicate 9 0) 0 ids refl (omega arith)) in
+    by_length : (b : Bool) → ltb (length ids) 9 ≡ b → Alike (take 9 ids) ids
+    by_length true t =
+        let e = few_kept ids (ltb-true _ _ t) in
         (ap bad_list e, λ f. e)
-
-    many : 9 ≤ length ids → Alike (take 9 (kept_all (replicate 9 0) 0 ids)) ids
-    many h =
-        let room : 9 ≤ length (kept_all (replicate 9 0) 0 ids) = omega (arith, all_length (replicate 9 0) 0 ids) in
-        let nine : 8 < length (take 9 (kept_all (replicate 9 0) 0 ids)) = omega (arith, length-take-le 9 (kept_all (replicate 9 0) 0 ids) room) in
-        let bad : bad_list ids ≡ true = long_bad ids h in
-        (long_bad _ nine ∙ sym bad, λ f. absurd (false≢true (sym f ∙ bad)))
+    by_length false t =
+        let many : 9 ≤ length ids = ltb-false _ _ t in
+        let bad : bad_list ids ≡ true = long_bad ids (omega arith) in
+        let kept : bad_list (take 9 ids) ≡ true = long_bad (take 9 ids) (omega (arith, many_kept ids many)) in
+        (kept ∙ sym bad, λ f. absurd (false≢true (sym f ∙ bad)))
 
 -- ---- the header
 
--- what follows from one number, told in two ways
+-- what the code keeps of a heading
+abbrev kept_of : Heading → Option Header
+kept_of malformed = None
+kept_of (heading ids mask first next) = Some (record { first = first; next = next; ids = nine_of ids; mask = mask })
+
+-- what follows from what was read, told in two ways
 given_both :
-    {A B : Type 0} (R : A → B → Type 0) {a : A} {b : B} (r : Number) (f : ℕ → ℕ → A) (g : ℕ → ℕ → B) → R a b
-    → ((v next : ℕ) → R (f v next) (g v next)) → R (given a r f) (given b r g)
+    {T : Type 0} (r : Option (T × ℕ)) (f : T → ℕ → Heading) (g : T → ℕ → Option Header) → ((v : T) (next : ℕ) → kept_of (f v next) ≡ g v next)
+    → kept_of (given malformed r f) ≡ given None r g
 unfolding given
-given_both R number.Bad f g h k = h
-given_both R (number.Value v next) f g h k = k v next
+given_both None f g k = refl
+given_both (Some (v, next)) f g k = k v next
+
+given_twice :
+    {T U : Type 0} (r : Option (T × ℕ)) (f : T → ℕ → Heading) (h : T → ℕ → Option (U × ℕ)) (g : U → ℕ → Option Header)
+    → ((v : T) (next : ℕ) → kept_of (f v next) ≡ given None (h v next) g) → kept_of (given malformed r f) ≡ given None (given None r h) g
+unfolding given
+given_twice None f h g k = refl
+given_twice (Some (v, next)) f h g k = k v next
 
 module _ (s : List ℕ) where
   ids_both :
-      (n at : ℕ) (a : List ℕ) (i : ℕ) (f : List ℕ → ℕ → Heading) (g : Ids → Header) → Says malformed (g no_ids)
-      → ((ids : List ℕ) (next : ℕ) → length ids ≡ n → Says (f ids next) (g (record { next = next; ids = kept_all a i ids; ok = true })))
-      → Says (ids_then n s at f) (g (ids_from n s at a i))
-  unfolding ids_then ids_from
-  ids_both zero at a i f g h k = k [] at refl
-  ids_both (suc n) at a i f g h k =
-      given_both (λ x y. Says x (g y)) (id_at s at) _ _ h
-      (λ id next. ids_both n next (kept_at a i id) (i + 1) (λ ids after. f (id ∷ ids) after) g h (λ ids after e. k (id ∷ ids) after (ap suc e)))
+      (n at : ℕ) (front : List ℕ) (f : List ℕ → ℕ → Heading) (g : ArrayVec ℕ → ℕ → Option Header)
+      → ((ids : List ℕ) (next : ℕ) → kept_of (f ids next) ≡ g (nine_of (front ++ ids)) next)
+      → kept_of (ids_then n s at f) ≡ given None (ids_from n s at (take 9 front)) g
+  unfolding ids_then ids_from given
+  ids_both zero at front f g k = k [] at ∙ rw append-nil
+  ids_both (suc n) at front f g k =
+      given_twice (id_at s at) _ _ g
+      (λ id next. rw (kept_next front id)
+      (ids_both n next (front ++ id ∷ []) _ g (λ ids after. k (id ∷ ids) after ∙ rw append_snoc)))
 
-  pub header_read : Says (heading_of s) (header_of s)
-  unfolding heading_of header_of after_ids
-  header_read =
-      given_both Says (byte_at s 0) _ _ refl (λ count a.
-      ids_both count a (replicate 9 0) 0 _ (after_ids s count) refl (λ ids b e.
-      given_both Says (byte_at s b) _ _ refl (λ mask c.
-      given_both Says (number_at s c) _ _ refl (λ first next. (refl, refl, refl, refl, rw (← e) (alike ids))))))
+  pub header_kept : kept_of (heading_of s) ≡ header_of s
+  unfolding heading_of header_of
+  header_kept =
+      given_both (byte_at s 0) _ _ (λ count a.
+      ids_both count a [] _ _ (λ ids b.
+      given_both (byte_at s b) _ _ (λ mask c.
+      given_both (number_at s c) _ _ (λ first next. refl))))
 
--- ---- nine ids at most are counted
+said : (h : Heading) → Says h (kept_of h)
+said malformed = refl
+said (heading ids mask first next) = (refl, refl, refl, alike ids)
 
-given_each : (P : Header → Type 0) {h : Header} (r : Number) (f : ℕ → ℕ → Header) → P h → ((v next : ℕ) → P (f v next)) → P (given h r f)
-unfolding given
-given_each P number.Bad f h k = h
-given_each P (number.Value v next) f h k = k v next
+pub header_read : (s : List ℕ) → Says (heading_of s) (header_of s)
+header_read s = rw (← header_kept s) (said (heading_of s))
 
-abbrev AtMostNine : Header → Type 0
-AtMostNine h = h.count ≤ 9
-
-least : (n : ℕ) → least_of_nine n ≤ 9
-least n = cond_ind (λ (m : ℕ). m ≤ 9) (ltb n 9) (λ t. omega (arith, ltb-true n 9 t)) (λ t. omega arith)
-
-pub at_most_nine : (s : List ℕ) → (header_of s).count ≤ 9
-unfolding header_of after_ids
-at_most_nine s =
-    given_each AtMostNine (byte_at s 0) _ (omega arith) (λ count a.
-    cond_ind AtMostNine (ids_from count s a (replicate 9 0) 0).ok
-    (λ t. given_each AtMostNine (byte_at s (ids_from count s a (replicate 9 0) 0).next) _ (omega arith) (λ mask b.
-    given_each AtMostNine (number_at s b) _ (omega arith) (λ first next. least count)))
-    (λ t. omega arith))
+pub at_most_nine : (s : List ℕ) (h : Header) → header_of s ≡ Some h → length h.ids.items ≤ 9
+at_most_nine s h e = by_heading (heading_of s) (header_kept s ∙ e)
+  where
+    by_heading : (k : Heading) → kept_of k ≡ Some h → length h.ids.items ≤ 9
+    by_heading malformed q = absurd (none-some h q)
+    by_heading (heading ids mask first next) q = rw (← same_Some _ h q) (nine_at_most ids)

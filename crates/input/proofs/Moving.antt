@@ -7,24 +7,23 @@ use lib.ListN.{length, get_or}
 use lib.Dec.{ltb, leb, eqb}
 use native.Mathlib.Nat.{le_refl, le_of_lt}
 use native.Mathlib.Omega.{arith}
+use Rattle.std.specs.Prelude.{Option, None, Some}
 use Rattle.wire.proofs.Table.{cond_ind}
 use Rattle.input.specs.Numbers.{with_group, number_in, number_at, byte_at, below, given}
 use Rattle.input.specs.Events.{message_at, start_at, finish_at, by_kind, event_at}
-use Rattle.input.specs.declared.number.Number.{Number}
-use Rattle.input.specs.declared.number.Number.TheVariants as number
-use Rattle.input.specs.declared.event.Next.{Next}
-use Rattle.input.specs.declared.event.Next.TheVariants.{Is, Bad}
+use Rattle.input.specs.declared.event.Event.{Event}
+
+-- what was read ends behind a place
+abbrev pub Later : {T : Type 0} → ℕ → Option (T × ℕ) → Type 0
+Later at None = Unit {0}
+Later at (Some (v, next)) = at < next
 
 -- ---- a number
 
-abbrev pub Later : ℕ → Number → Type 0
-Later at number.Bad = Unit {0}
-Later at (number.Value n next) = at < next
-
-joined_later : (at x : ℕ) (r : Number) → Later (at + 1) r → Later at (with_group x r)
+joined_later : (at x : ℕ) (r : Option (ℕ × ℕ)) → Later (at + 1) r → Later at (with_group x r)
 unfolding with_group
-joined_later at x number.Bad h = tt
-joined_later at x (number.Value high next) h =
+joined_later at x None h = tt
+joined_later at x (Some (high, next)) h =
     cond_ind (Later at) (eqb high 0 || leb (2 ^ 64) (x - 128 + high * 128)) (λ t. tt) (λ t. omega arith)
 
 pub later : (left : ℕ) (s : List ℕ) (at : ℕ) → Later at (number_in left s at)
@@ -35,10 +34,10 @@ later (suc left) s at =
     (λ l. cond_ind (Later at) (ltb (get_or s at 0) 128) (λ h. omega arith) (λ h. joined_later at (get_or s at 0) (number_in left s (at + 1)) (later left s (at + 1))))
     (λ l. tt)
 
-below_later : (at bound : ℕ) (r : Number) → Later at r → Later at (below bound r)
+below_later : (at bound : ℕ) (r : Option (ℕ × ℕ)) → Later at r → Later at (below bound r)
 unfolding below
-below_later at bound number.Bad h = tt
-below_later at bound (number.Value v next) h = cond_ind (Later at) (ltb v bound) (λ t. h) (λ t. tt)
+below_later at bound None h = tt
+below_later at bound (Some (v, next)) h = cond_ind (Later at) (ltb v bound) (λ t. h) (λ t. tt)
 
 byte_later : (s : List ℕ) (at : ℕ) → Later at (byte_at s at)
 byte_later s at = below_later at 256 (number_at s at) (later 10 s at)
@@ -46,27 +45,25 @@ byte_later s at = below_later at 256 (number_at s at) (later 10 s at)
 -- ---- an event
 
 module _ (at : ℕ) where
-  abbrev pub Ends : Next → Type 0
-  Ends Bad = Unit {0}
-  Ends (Is e next) = at < next
-
   -- what follows from a number that starts at the place or behind it
-  given_ends : {from : ℕ} (r : Number) (f : ℕ → ℕ → Next) → at ≤ from → Later from r → ((v next : ℕ) → at < next → Ends (f v next)) → Ends (given Bad r f)
+  given_ends :
+      {from : ℕ} (r : Option (ℕ × ℕ)) (f : ℕ → ℕ → Option (Event × ℕ)) → at ≤ from → Later from r
+      → ((v next : ℕ) → at < next → Later at (f v next)) → Later at (given None r f)
   unfolding given
-  given_ends number.Bad f h l g = tt
-  given_ends (number.Value v next) f h l g = g v next (omega arith)
+  given_ends None f h l g = tt
+  given_ends (Some (v, next)) f h l g = g v next (omega arith)
 
   module _ (s : List ℕ) {from : ℕ} (h : at < from) where
-    message_ends : Ends (message_at s from)
+    message_ends : Later at (message_at s from)
     unfolding message_at
     message_ends =
-        given_ends (number_at s from) _ (le_of_lt h) (later 10 s from) (λ n a l. cond_ind Ends (ltb (length s) (a + n)) (λ t. tt) (λ t. omega arith))
+        given_ends (number_at s from) _ (le_of_lt h) (later 10 s from) (λ n a l. cond_ind (Later at) (ltb (length s) (a + n)) (λ t. tt) (λ t. omega arith))
 
-    start_ends : Ends (start_at s from)
+    start_ends : Later at (start_at s from)
     unfolding start_at
     start_ends = given_ends (byte_at s from) _ (le_of_lt h) (byte_later s from) (λ unit next l. l)
 
-    finish_ends : Ends (finish_at s from)
+    finish_ends : Later at (finish_at s from)
     unfolding finish_at
     finish_ends =
         given_ends (number_at s from) _ (le_of_lt h) (later 10 s from) (λ arrival a k.
@@ -76,14 +73,14 @@ module _ (at : ℕ) where
         given_ends (byte_at s d) _ (le_of_lt n) (byte_later s d) (λ qualifier e o.
         given_ends (number_at s e) _ (le_of_lt o) (later 10 s e) (λ transferred next p. p))))))
 
-    kind_ends : (kind : ℕ) → Ends (by_kind s kind from)
+    kind_ends : (kind : ℕ) → Later at (by_kind s kind from)
     unfolding by_kind
     kind_ends kind =
-        cond_ind Ends (eqb kind 1) (λ t. message_ends) (λ t.
-        cond_ind Ends (eqb kind 2) (λ t. start_ends) (λ t.
-        cond_ind Ends (eqb kind 3) (λ t. finish_ends) (λ t.
-        cond_ind Ends (eqb kind 4) (λ t. h) (λ t. tt))))
+        cond_ind (Later at) (eqb kind 1) (λ t. message_ends) (λ t.
+        cond_ind (Later at) (eqb kind 2) (λ t. start_ends) (λ t.
+        cond_ind (Later at) (eqb kind 3) (λ t. finish_ends) (λ t.
+        cond_ind (Later at) (eqb kind 4) (λ t. h) (λ t. tt))))
 
-  pub event_ends : (s : List ℕ) → Ends (event_at s at)
+  pub event_ends : (s : List ℕ) → Later at (event_at s at)
   unfolding event_at
   event_ends s = given_ends (number_at s at) _ (le_refl at) (later 10 s at) (λ kind next h. kind_ends s h kind)

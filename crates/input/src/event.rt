@@ -2,7 +2,7 @@
 ghost use Rattle.std.specs.Prelude.{◌≡◌};
 ghost use Rattle.input.specs.Events.{message_at, start_at, finish_at, event_at};
 
-use crate::number::{Number, byte_at, number_at};
+use crate::number::{byte_at, number_at};
 
 // An event with its fields; a message is the part of the input from one place up to another.
 #[derive(Clone, Copy)]
@@ -23,92 +23,58 @@ pub enum Event {
     TotalReset,
 }
 
-// What stands at a place: an event and the place after it, or nothing that is well formed.
-#[derive(Clone, Copy)]
-pub enum Next {
-    Is(Event, usize),
-    Bad,
-}
-
-fn message_at(s: &[u8], at: usize) -> Next
+#[tactic(auto, unfolding(crate::specs::Numbers::given, crate::specs::Events::message_at))]
+fn message_at(s: &[u8], at: usize) -> Option<(Event, usize)>
     ensures { result ≡ message_at s.now at }
 {
-    let Number::Value(n, from) = number_at(s, at) else {
-        return Next::Bad;
-    };
-    let size = s.len();
-    if from > size {
-        return Next::Bad;
+    let (n, from) = number_at(s, at)?;
+    let until = from.checked_add(usize::try_from(n).ok()?)?;
+    if until > s.len() {
+        return None;
     }
-    let left = size - from;
-    if n > left as u64 {
-        return Next::Bad;
-    }
-    let until = from + n as usize;
-    Next::Is(Event::Message { from, until }, until)
+    Some((Event::Message { from, until }, until))
 }
 
-fn start_at(s: &[u8], at: usize) -> Next
+#[tactic(auto, unfolding(crate::specs::Numbers::given, crate::specs::Events::start_at))]
+fn start_at(s: &[u8], at: usize) -> Option<(Event, usize)>
     ensures { result ≡ start_at s.now at }
 {
-    let Number::Value(unit, next) = byte_at(s, at) else {
-        return Next::Bad;
-    };
-    Next::Is(Event::Start((unit % 256) as u8), next)
+    let (unit, next) = byte_at(s, at)?;
+    Some((Event::Start(unit), next))
 }
 
-fn finish_at(s: &[u8], at: usize) -> Next
+#[tactic(auto, unfolding(crate::specs::Numbers::given, crate::specs::Events::finish_at))]
+fn finish_at(s: &[u8], at: usize) -> Option<(Event, usize)>
     ensures { result ≡ finish_at s.now at }
 {
-    let Number::Value(arrival, a) = number_at(s, at) else {
-        return Next::Bad;
+    let (arrival, a) = number_at(s, at)?;
+    let (status, b) = byte_at(s, a)?;
+    let (key, c) = byte_at(s, b)?;
+    let (code, d) = byte_at(s, c)?;
+    let (qualifier, e) = byte_at(s, d)?;
+    let (transferred, next) = number_at(s, e)?;
+    let finish = Event::Finish {
+        arrival,
+        status,
+        key,
+        code,
+        qualifier,
+        transferred,
     };
-    let Number::Value(status, b) = byte_at(s, a) else {
-        return Next::Bad;
-    };
-    let Number::Value(key, c) = byte_at(s, b) else {
-        return Next::Bad;
-    };
-    let Number::Value(code, d) = byte_at(s, c) else {
-        return Next::Bad;
-    };
-    let Number::Value(qualifier, e) = byte_at(s, d) else {
-        return Next::Bad;
-    };
-    let Number::Value(transferred, next) = number_at(s, e) else {
-        return Next::Bad;
-    };
-    Next::Is(
-        Event::Finish {
-            arrival,
-            status: (status % 256) as u8,
-            key: (key % 256) as u8,
-            code: (code % 256) as u8,
-            qualifier: (qualifier % 256) as u8,
-            transferred,
-        },
-        next,
-    )
+    Some((finish, next))
 }
 
-// The event at a place.
-pub fn event_at(s: &[u8], at: usize) -> Next
+// The event at a place, and the place after it.
+#[tactic(auto, unfolding(crate::specs::Numbers::given, crate::specs::Events::event_at, crate::specs::Events::by_kind))]
+pub fn event_at(s: &[u8], at: usize) -> Option<(Event, usize)>
     ensures { result ≡ event_at s.now at }
 {
-    let Number::Value(kind, a) = number_at(s, at) else {
-        return Next::Bad;
-    };
-    if kind == 1 {
-        return message_at(s, a);
+    let (kind, a) = number_at(s, at)?;
+    match kind {
+        1 => message_at(s, a),
+        2 => start_at(s, a),
+        3 => finish_at(s, a),
+        4 => Some((Event::TotalReset, a)),
+        _ => None,
     }
-    if kind == 2 {
-        return start_at(s, a);
-    }
-    if kind == 3 {
-        return finish_at(s, a);
-    }
-    if kind == 4 {
-        return Next::Is(Event::TotalReset, a);
-    }
-    Next::Bad
 }
