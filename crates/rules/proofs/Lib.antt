@@ -4,4 +4,3 @@ pub mod Entries
 pub mod Examples
 pub mod Unique
 pub mod Promises
-mod Cases

@@ -8,6 +8,7 @@ ghost use Rattle.rules.specs.Rules.{asks_aca, resumes_unmarked, misses_resume, p
 use crate::change::{QueueChange, SenderChange};
 use crate::facts::Facts;
 use wire::codes::{INQUIRY, Kind, REQUEST_SENSE, Refusal, ReturnCode, Sense, StatusByte};
+use wire::fields::byte_at;
 use wire::message::Flags;
 
 // What a rule answers, with what that does to the sender; with a STATUS also what it does to the queue of the unit. A
@@ -28,87 +29,82 @@ pub struct Decision {
     pub ruling: Ruling,
 }
 
-// RESUME set, path not marked.
-fn resumes_unmarked(f: Facts, g: Flags) -> bool
-    ensures { result ≡ resumes_unmarked f g }
-{
-    if g.resume {
-        return !f.marked;
-    }
-    false
-}
-
-// RESUME clear, marked.
-fn misses_resume(f: Facts, g: Flags) -> bool
-    ensures { result ≡ misses_resume f g }
-{
-    if g.resume {
-        return false;
-    }
-    f.marked
-}
-
-fn asks_aca(g: Flags) -> bool
-    ensures { result ≡ asks_aca g }
-{
-    g.queue == Kind::Aca
-}
-
-// The unit has ACA, and it keeps this command out.
-fn kept_out_by_aca(f: Facts, g: Flags) -> bool
-    ensures { result ≡ Rules.kept_out_by_aca f g }
-{
-    if !f.aca {
-        return false;
-    }
-    if !f.owned {
-        return true;
-    }
-    if !asks_aca(g) {
-        return true;
-    }
-    f.busy
-}
-
-// No ACA and kind ACA.
-fn aca_kind_without_aca(f: Facts, g: Flags) -> bool
-    ensures { result ≡ Rules.aca_kind_without_aca f g }
-{
-    if f.aca {
-        return false;
-    }
-    asks_aca(g)
-}
-
 // INQUIRY and REQUEST SENSE go past a pending attention.
+#[tactic(auto, unfolding(crate::specs::Rules::passes_attention))]
 fn passes_attention(m: &[u8]) -> bool
     ensures { result ≡ passes_attention m.now }
 {
-    let first = wire::fields::byte_at(m, 16);
-    if first == INQUIRY {
-        return true;
-    }
-    first == REQUEST_SENSE
+    matches!(byte_at(m, 16), INQUIRY | REQUEST_SENSE)
 }
 
-fn reset_to_report(f: Facts, m: &[u8]) -> bool
-    ensures { result ≡ reset_to_report f m.now }
-{
-    let pending = f.attention;
-    if table::paths::is_reset(pending) {
-        return !passes_attention(m);
-    }
-    false
+// A command under the rules: what was asked of the table for it, and the flags of its byte 10.
+#[derive(Clone, Copy)]
+struct Case {
+    facts: Facts,
+    flags: Flags,
 }
 
-fn cleared_to_report(f: Facts, m: &[u8]) -> bool
-    ensures { result ≡ cleared_to_report f m.now }
-{
-    let pending = f.attention;
-    if table::paths::is_cleared(pending) {
-        return !passes_attention(m);
+// When a rule applies.
+impl Case {
+    // RESUME set, path not marked.
+    #[tactic(auto, unfolding(crate::specs::Rules::resumes_unmarked))]
+    fn resumes_unmarked(self) -> bool
+        ensures { result ≡ resumes_unmarked self.facts self.flags }
+    {
+        self.flags.resume && !self.facts.marked
     }
-    false
+
+    // RESUME clear, marked.
+    #[tactic(auto, unfolding(crate::specs::Rules::misses_resume))]
+    fn misses_resume(self) -> bool
+        ensures { result ≡ misses_resume self.facts self.flags }
+    {
+        !self.flags.resume && self.facts.marked
+    }
+
+    // OOT and CONFIRM both set: bytes that may come out of order have no offset to restart at.
+    #[tactic(auto, unfolding(crate::specs::Rules::contradicts))]
+    fn contradicts(self) -> bool
+        ensures { result ≡ Rules.contradicts self.flags }
+    {
+        self.flags.oot && self.flags.confirm
+    }
+
+    fn asks_aca(self) -> bool
+        ensures { result ≡ asks_aca self.flags }
+    {
+        self.flags.queue == Kind::Aca
+    }
+
+    // The unit has ACA, and it keeps this command out.
+    #[tactic(auto, unfolding(crate::specs::Rules::kept_out_by_aca))]
+    fn kept_out_by_aca(self) -> bool
+        ensures { result ≡ Rules.kept_out_by_aca self.facts self.flags }
+    {
+        self.facts.aca && !(self.facts.owned && self.asks_aca() && !self.facts.busy)
+    }
+
+    // No ACA and kind ACA.
+    #[tactic(auto, unfolding(crate::specs::Rules::aca_kind_without_aca))]
+    fn aca_kind_without_aca(self) -> bool
+        ensures { result ≡ Rules.aca_kind_without_aca self.facts self.flags }
+    {
+        !self.facts.aca && self.asks_aca()
+    }
+
+    #[tactic(auto, unfolding(crate::specs::Rules::reset_to_report))]
+    fn reset_to_report(self, m: &[u8]) -> bool
+        ensures { result ≡ reset_to_report self.facts m.now }
+    {
+        table::paths::is_reset(self.facts.attention) && !passes_attention(m)
+    }
+
+    #[tactic(auto, unfolding(crate::specs::Rules::cleared_to_report))]
+    fn cleared_to_report(self, m: &[u8]) -> bool
+        ensures { result ≡ cleared_to_report self.facts m.now }
+    {
+        table::paths::is_cleared(self.facts.attention) && !passes_attention(m)
+    }
 }
 
 fn refuse(rule: u8, n: Refusal) -> Decision
@@ -162,6 +158,7 @@ fn tell_attention(sense: Sense) -> Decision
 }
 
 // Rules 9 to 11: the command block.
+#[tactic(auto, unfolding(crate::specs::Rules::block_rules, crate::specs::First::first_that))]
 fn by_block(m: &[u8]) -> Decision
     ensures { result ≡ decision (first_that (block_rules m.now) (accepts m.now)) }
 {
@@ -177,87 +174,90 @@ fn by_block(m: &[u8]) -> Decision
     }
 }
 
-// Rules 6 to 8: the unit, its ACA, and the sender's attention; then those of the block.
-fn by_unit(f: Facts, g: Flags, m: &[u8]) -> Decision
-    ensures { result ≡ decision (first_that (unit_rules f g m.now ++ block_rules m.now) (accepts m.now)) }
-{
-    if !f.attached {
-        return report(
-            6,
-            StatusByte::CHECK_CONDITION,
-            Sense::NO_SUCH_UNIT,
-            SenderChange::ClearMark,
-        );
+// The rules in their order, in four groups: the first of a group that applies, and else the next group.
+impl Case {
+    // Rules 6 to 8: the unit, its ACA, and the sender's attention; then those of the block.
+    #[tactic(auto, unfolding(crate::specs::Rules::unit_rules, crate::specs::First::first_that))]
+    fn by_unit(self, m: &[u8]) -> Decision
+        ensures { result ≡ decision (first_that (unit_rules self.facts self.flags m.now ++ block_rules m.now) (accepts m.now)) }
+    {
+        if !self.facts.attached {
+            return report(
+                6,
+                StatusByte::CHECK_CONDITION,
+                Sense::NO_SUCH_UNIT,
+                SenderChange::ClearMark,
+            );
+        }
+        if self.kept_out_by_aca() {
+            return report(
+                7,
+                StatusByte::ACA_ACTIVE,
+                Sense::NONE,
+                SenderChange::ClearMark,
+            );
+        }
+        if self.aca_kind_without_aca() {
+            return hold(7, Sense::NO_ACA_THERE, SenderChange::ClearMark);
+        }
+        if self.reset_to_report(m) {
+            return tell_attention(Sense::RESET_OCCURRED);
+        }
+        if self.cleared_to_report(m) {
+            return tell_attention(Sense::CLEARED_BY_ANOTHER);
+        }
+        by_block(m)
     }
-    if kept_out_by_aca(f, g) {
-        return report(
-            7,
-            StatusByte::ACA_ACTIVE,
-            Sense::NONE,
-            SenderChange::ClearMark,
-        );
+
+    // Rules 3 to 5: the fields, OOT with CONFIRM, and the tag; then those of the unit.
+    #[tactic(auto, unfolding(crate::specs::Rules::field_rules, crate::specs::First::first_that))]
+    fn by_fields(self, m: &[u8]) -> Decision
+        ensures { result ≡ decision (first_that (field_rules self.facts self.flags m.now ++ (unit_rules self.facts self.flags m.now ++ block_rules m.now)) (accepts m.now)) }
+    {
+        if wire::message::reserved_set(m) {
+            return respond(3, ReturnCode::INVALID_FIELD, SenderChange::ClearMark);
+        }
+        if self.contradicts() {
+            return Decision {
+                rule: 4,
+                ruling: Ruling::Invalid(SenderChange::ClearMark),
+            };
+        }
+        if self.facts.taken {
+            return respond(5, ReturnCode::OVERLAPPED, SenderChange::ClearMark);
+        }
+        self.by_unit(m)
     }
-    if aca_kind_without_aca(f, g) {
-        return hold(7, Sense::NO_ACA_THERE, SenderChange::ClearMark);
+
+    // Rules 1 and 2: room and length; then the others.
+    #[tactic(auto, unfolding(crate::specs::Rules::command_rules, crate::specs::Rules::room_rules, crate::specs::First::first_that))]
+    fn by_room(self, m: &[u8]) -> Decision
+        ensures { result ≡ decision (deciding self.facts self.flags m.now) }
+    {
+        if self.resumes_unmarked() {
+            return respond(1, ReturnCode::INVALID_FIELD, SenderChange::Stays);
+        }
+        if self.misses_resume() {
+            return refuse(1, Refusal::Discarded);
+        }
+        if !self.facts.room {
+            return report(
+                1,
+                StatusByte::TASK_SET_FULL,
+                Sense::NONE,
+                SenderChange::SetMark,
+            );
+        }
+        if wire::block::cut_short(m) {
+            return refuse(2, Refusal::TooShort);
+        }
+        self.by_fields(m)
     }
-    if reset_to_report(f, m) {
-        return tell_attention(Sense::RESET_OCCURRED);
-    }
-    if cleared_to_report(f, m) {
-        return tell_attention(Sense::CLEARED_BY_ANOTHER);
-    }
-    by_block(m)
 }
 
-// OOT and CONFIRM both set: bytes that may come out of order have no offset to restart at.
-fn contradicts(g: Flags) -> bool
-    ensures { result ≡ Rules.contradicts g }
-{
-    if g.oot {
-        return g.confirm;
-    }
-    false
-}
-
-// Rules 3 to 5: the fields, OOT with CONFIRM, and the tag; then those of the unit.
-fn by_fields(f: Facts, g: Flags, m: &[u8]) -> Decision
-    ensures { result ≡ decision (first_that (field_rules f g m.now ++ (unit_rules f g m.now ++ block_rules m.now)) (accepts m.now)) }
-{
-    if wire::message::reserved_set(m) {
-        return respond(3, ReturnCode::INVALID_FIELD, SenderChange::ClearMark);
-    }
-    if contradicts(g) {
-        return Decision {
-            rule: 4,
-            ruling: Ruling::Invalid(SenderChange::ClearMark),
-        };
-    }
-    if f.taken {
-        return respond(5, ReturnCode::OVERLAPPED, SenderChange::ClearMark);
-    }
-    by_unit(f, g, m)
-}
-
-// The first rule that applies: rules 1 and 2, room and length; then the others.
+// The first rule that applies.
 pub fn decide(f: Facts, g: Flags, m: &[u8]) -> Decision
     ensures { result ≡ decision (deciding f g m.now) }
 {
-    if resumes_unmarked(f, g) {
-        return respond(1, ReturnCode::INVALID_FIELD, SenderChange::Stays);
-    }
-    if misses_resume(f, g) {
-        return refuse(1, Refusal::Discarded);
-    }
-    if !f.room {
-        return report(
-            1,
-            StatusByte::TASK_SET_FULL,
-            Sense::NONE,
-            SenderChange::SetMark,
-        );
-    }
-    if wire::block::cut_short(m) {
-        return refuse(2, Refusal::TooShort);
-    }
-    by_fields(f, g, m)
+    Case { facts: f, flags: g }.by_room(m)
 }

@@ -36,6 +36,7 @@ pub struct Lookup {
 // What is asked of the table for the path at p, about its task with a tag and about a unit. Who else has a task on
 // the unit is one more pass over the records: it is asked with `clears` alone. (CLEAR TASK SET asks it by itself, beside
 // unit_alone, so no call sets `clears` now.)
+#[tactic(auto, unfolding(crate::specs::Facts::facts_of, crate::specs::Facts::lookup_of, table::specs::Steps::holders_of))]
 pub fn look_up(t: Table, p: u8, tag: u16, lun: u8, clears: bool) -> Lookup
     ensures { result ≡ lookup_of t p tag lun (cond clears (others_on t lun p) 0) }
 {

@@ -38,11 +38,7 @@ pub fn tag_of(o: Order) -> u16
 {
     match o {
         Order::AbortTask(tag2) => tag2,
-        Order::AbortTaskSet(_) => 0,
-        Order::ClearTaskSet(_) => 0,
-        Order::ClearAca(_) => 0,
-        Order::UnitReset(_) => 0,
-        Order::TargetReset => 0,
+        _ => 0,
     }
 }
 
@@ -50,12 +46,11 @@ pub fn unit_of(o: Order) -> u8
     ensures { result ≡ unit_of o }
 {
     match o {
-        Order::AbortTask(_) => 0,
-        Order::AbortTaskSet(lun) => lun,
-        Order::ClearTaskSet(lun) => lun,
-        Order::ClearAca(lun) => lun,
-        Order::UnitReset(lun) => lun,
-        Order::TargetReset => 0,
+        Order::AbortTaskSet(lun)
+        | Order::ClearTaskSet(lun)
+        | Order::ClearAca(lun)
+        | Order::UnitReset(lun) => lun,
+        Order::AbortTask(_) | Order::TargetReset => 0,
     }
 }
 
@@ -63,28 +58,14 @@ pub fn unit_of(o: Order) -> u8
 pub fn clears_set(o: Order) -> bool
     ensures { result ≡ is_clear_set o }
 {
-    match o {
-        Order::AbortTask(_) => false,
-        Order::AbortTaskSet(_) => false,
-        Order::ClearTaskSet(_) => true,
-        Order::ClearAca(_) => false,
-        Order::UnitReset(_) => false,
-        Order::TargetReset => false,
-    }
+    matches!(o, Order::ClearTaskSet(_))
 }
 
 // Whether an order goes by its unit alone, or by none: by no task of the sender's and no ACA.
 pub fn goes_by_unit(o: Order) -> bool
     ensures { result ≡ by_unit o }
 {
-    match o {
-        Order::AbortTask(_) => false,
-        Order::AbortTaskSet(_) => true,
-        Order::ClearTaskSet(_) => true,
-        Order::ClearAca(_) => false,
-        Order::UnitReset(_) => true,
-        Order::TargetReset => true,
-    }
+    !matches!(o, Order::AbortTask(_) | Order::ClearAca(_))
 }
 
 // The return code of an order whose fields are right.
@@ -92,22 +73,9 @@ fn carried_code(f: Facts, o: Order) -> ReturnCode
     ensures { result ≡ carried_code f o }
 {
     match o {
-        Order::AbortTask(_) => {
-            if f.taken {
-                return ReturnCode::DONE;
-            }
-            ReturnCode::TASK_NOT_FOUND
-        }
-        Order::AbortTaskSet(_) => ReturnCode::DONE,
-        Order::ClearTaskSet(_) => ReturnCode::DONE,
-        Order::ClearAca(_) => {
-            if f.owned {
-                return ReturnCode::DONE;
-            }
-            ReturnCode::NO_ACA
-        }
-        Order::UnitReset(_) => ReturnCode::DONE,
-        Order::TargetReset => ReturnCode::DONE,
+        Order::AbortTask(_) if !f.taken => ReturnCode::TASK_NOT_FOUND,
+        Order::ClearAca(_) if !f.owned => ReturnCode::NO_ACA,
+        _ => ReturnCode::DONE,
     }
 }
 
@@ -115,27 +83,16 @@ fn carried_code(f: Facts, o: Order) -> ReturnCode
 fn has_unit(o: Order) -> bool
     ensures { result ≡ has_unit o }
 {
-    match o {
-        Order::AbortTask(_) => false,
-        Order::AbortTaskSet(_) => true,
-        Order::ClearTaskSet(_) => true,
-        Order::ClearAca(_) => true,
-        Order::UnitReset(_) => true,
-        Order::TargetReset => false,
-    }
+    !matches!(o, Order::AbortTask(_) | Order::TargetReset)
 }
 
 // The return code of an order: FFh for a reserved field that is not zero, or a LUN that is not attached.
+#[tactic(auto, unfolding(crate::specs::Management::order_code))]
 pub fn order_code(f: Facts, m: &[u8], o: Order) -> ReturnCode
     ensures { result ≡ order_code f m.now o }
 {
-    if wire::message::reserved_set(m) {
+    if wire::message::reserved_set(m) || (has_unit(o) && !f.attached) {
         return ReturnCode::INVALID_FIELD;
-    }
-    if has_unit(o) {
-        if !f.attached {
-            return ReturnCode::INVALID_FIELD;
-        }
     }
     carried_code(f, o)
 }
