@@ -1,12 +1,11 @@
 -- What a message asks, the plan for a ruling, an order, a confirmation and what is asked, and what a change that holds
 -- the queue does: a lemma for each way out of the functions of `plan`. Assumes nothing.
-use Prim.Native.Nat.{ℕ, ◌<◌, ◌≤◌}
+use Prim.Native.Nat.{ℕ}
 use mathlib.Core.Path.{◌≡◌, ◌∙◌}
-use mathlib.Core.Bool.{Bool, true, false, not}
+use mathlib.Core.Bool.{Bool}
 use mathlib.Core.List.{List}
-use borrow.Author.Tests.{not-true, not-false, lt-ltb, le-ltb, eq-eqb, ne_eqb}
+use borrow.Author.Tests.{eq-eqb, ne_eqb}
 use Rattle.wire.specs.Codes
-use Rattle.wire.specs.Messages.{reserved_set}
 use Rattle.wire.specs.declared.codes.Queue.{Queue}
 use Rattle.wire.specs.declared.codes.Refusal.{Refusal}
 use Rattle.wire.specs.declared.codes.ReturnCode.{ReturnCode}
@@ -16,13 +15,9 @@ use Rattle.wire.specs.declared.message.Flags.{Flags}
 use Rattle.wire.specs.declared.message.Message.{Message}
 use Rattle.wire.specs.declared.message.Message.TheVariants as message
 use Rattle.reply.specs.declared.Reply.TheVariants as reply
-use Rattle.task.specs.Tasks.{transferred_of}
-use Rattle.task.specs.Selections.{numbered_as}
 use Rattle.task.specs.declared.Kind.{Kind}
 use Rattle.task.specs.declared.Kind.TheVariants as kind
-use Rattle.task.specs.declared.Phase.TheVariants as phase
 use Rattle.task.specs.declared.Sequel.{Sequel}
-use Rattle.task.specs.declared.scan.Pick.{Pick}
 use Rattle.task.specs.declared.select.Selection.{Selection}
 use Rattle.table.specs.Tables.{claimed_in}
 use Rattle.table.specs.declared.Path as path
@@ -41,7 +36,7 @@ use Rattle.rules.specs.declared.command.Ruling.TheVariants.{Refuse, Respond, Rep
 use Rattle.rules.specs.declared.command.Decision.{Decision}
 use Rattle.rules.specs.declared.manage.Order.{Order}
 use Rattle.rules.specs.declared.manage.Order.TheVariants as order
-use Rattle.plan.specs.Plans.{asked_of, kind_of, sequel_of, planned, refusing, report_change, ruled, order_plan, is_awaited, confirm_plan, plan_of, sender_after, paths_after, units_after}
+use Rattle.plan.specs.Plans.{asked_of, kind_of, sequel_of, planned, refusing, report_change, ruled, order_plan, confirm_plan, plan_of, sender_after, paths_after, units_after}
 use Rattle.plan.specs.declared.Request.{Request}
 use Rattle.plan.specs.declared.Request.TheVariants.{Command, Manage, Confirm}
 use Rattle.plan.specs.declared.Asked.{Asked}
@@ -136,52 +131,6 @@ module _ (f : Facts) (others p tag : ℕ) (m : List ℕ) (o : Order) {code : Ret
   not_done k h = h ∙ rw (← e, ne_eqb _ _ k)
 
 pub ruleset order_cases = (done, not_done)
-
--- whether a task was picked that waits to be confirmed
-module _ (own : Pick) where
-  pub none_picked : not own.found ≡ true → false ≡ is_awaited own
-  none_picked h = rw (not-true own.found h)
-
-  module _ (h : not own.found ≡ false) where
-    pub still_waits : own.task.phase ≡ phase.Waiting → false ≡ is_awaited own
-    still_waits e = rw (not-false own.found h, e)
-
-    pub still_runs : own.task.phase ≡ phase.Running → false ≡ is_awaited own
-    still_runs e = rw (not-false own.found h, e)
-
-    pub awaits : own.task.phase ≡ phase.Unconfirmed → true ≡ is_awaited own
-    awaits e = rw (not-false own.found h, e)
-
-pub ruleset awaited_cases = (none_picked, still_waits, still_runs, awaits)
-
--- a confirmation, test by test
-module _ (own : Pick) (p tag : ℕ) (m : List ℕ) (offset : ℕ) (complete : Bool) {b : Bool} (e : b ≡ reserved_set m) where
-  pub confirms_reserved : {pl : Plan} → b ≡ true → pl ≡ planned (answer.Reply (reply.Response tag Codes.invalid_field)) change.Nothing records.Nothing → pl ≡ confirm_plan own p tag m offset complete
-  unfolding confirm_plan
-  confirms_reserved h k = rw (← e, h) k
-
-  module _ (h : b ≡ false) {w : Bool} (a : w ≡ is_awaited own) where
-    pub confirms_none : {pl : Plan} → not w ≡ true → pl ≡ refusing Codes.nothing_to_confirm → pl ≡ confirm_plan own p tag m offset complete
-    unfolding confirm_plan
-    confirms_none i k = rw (← e, h, ← a, i) k
-
-    module _ (i : not w ≡ false) where
-      pub completes : {s : Selection} → complete ≡ true → s ≡ numbered_as own.task.arrival p tag
-          → planned (answer.Confirmed own.task.arrival) change.Nothing (records.Complete s) ≡ confirm_plan own p tag m offset complete
-      unfolding confirm_plan
-      completes j k = rw (k, ← e, h, ← a, i, j)
-
-      pub confirms_past : {pl : Plan} → complete ≡ false → transferred_of own.task < offset → pl ≡ planned (answer.Reply (reply.Response tag Codes.invalid_field)) change.Nothing records.Nothing
-          → pl ≡ confirm_plan own p tag m offset complete
-      unfolding confirm_plan
-      confirms_past j l k = rw (← e, h, ← a, i, j, lt-ltb _ _ l) k
-
-      pub restarts : complete ≡ false → offset ≤ transferred_of own.task
-          → planned (answer.Restarted own.task.arrival) change.Nothing (records.Restart own.at offset) ≡ confirm_plan own p tag m offset complete
-      unfolding confirm_plan
-      restarts j l = rw (← e, h, ← a, i, j, le-ltb _ _ l)
-
-pub ruleset confirm_cases = (confirms_reserved, confirms_none, completes, confirms_past, restarts)
 
 -- what is asked
 module _ (s : Lookup) (next p tag : ℕ) (m : List ℕ) {w : Request} {pl : Plan} where
