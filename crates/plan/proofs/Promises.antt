@@ -8,6 +8,7 @@ use native.Mathlib.Omega.{arith}
 use lib.Dec.{eqb}
 use Rattle.wire.specs.Codes
 use Rattle.reply.specs.declared.Reply.TheVariants as reply
+use Rattle.std.specs.Prelude.{Option}
 use Rattle.task.specs.declared.scan.Pick.{Pick}
 use Rattle.wire.proofs.Table.{cond_ind}
 use Rattle.task.proofs.Ways.{never}
@@ -37,7 +38,7 @@ order_answer f others p tag m o =
     cond_ind (λ (pl : Plan). pl.answer ≡ Ok (answer.Reply (reply.Response tag (order_code f m o)))) (eqb (order_code f m o).0 (Codes.done).0) (λ _. refl) (λ _. refl)
 
 -- CLEAR TASK SET alone looks at the other paths that have a task on the unit
-module _ (f : Facts) (own : Pick) (x y : ℕ) where
+module _ (f : Facts) (own : Option Pick) (x y : ℕ) where
   abbrev lookup_with : ℕ → Lookup
   lookup_with others = record { facts = f; own = own; others = others }
 

@@ -1,6 +1,7 @@
 -- The plan of an answer: what a message asks, what is answered, and what that does to paths and units (the change)
 -- and to the records.
-use Rattle.std.specs.Prelude.{ℕ, Result, Ok, Err, Bool, true, false, cond, not, ◌&&◌, List, eqb, ltb}
+use Rattle.std.specs.Prelude.{ℕ, Result, Ok, Err, Bool, true, false, cond, List, eqb, ltb, Some, None}
+use Rattle.std.specs.declared.option.Option as option
 use Rattle.std.proofs.Math.Option.{Option, none, some}
 use Rattle.wire.specs.Codes
 use Rattle.wire.specs.Messages.{reserved_set}
@@ -15,7 +16,6 @@ use Rattle.task.specs.Selections.{numbered_as}
 use Rattle.task.specs.declared.scan.Pick.{Pick}
 use Rattle.task.specs.declared.Sequel.{Sequel}
 use Rattle.task.specs.declared.Sequel.TheVariants as sequel
-use Rattle.task.specs.declared.select.Place.TheVariants.{On}
 use Rattle.table.specs.Tables.{marked_in, attention_gone_in, cleared_attention_in, reset_attention_in, claimed_in, aca_cleared_in}
 use Rattle.table.specs.declared.Path as path
 use Rattle.table.specs.declared.Unit as unit
@@ -130,20 +130,26 @@ order_plan f others p tag m o =
     (planned (Ok (answer.Reply (reply.Response tag (order_code f m o)))) (order_change others o) (records.End (ends_of p o)))
     (planned (Ok (answer.Reply (reply.Response tag (order_code f m o)))) change.Nothing records.Nothing)
 
--- the sender's task with the tag waits to be confirmed: a waiting or running one does not
-abbrev pub is_awaited : Pick → Bool
-is_awaited own = own.found && is_unconfirmed own.task.phase
+-- the sender's task with the tag, where it waits to be confirmed: a waiting or running one does not
+abbrev pub awaited : option.Option Pick → option.Option Pick
+awaited None = None
+awaited (Some own) = cond (is_unconfirmed own.task.phase) (Some own) None
 
--- CONFIRM STATUS: a reserved bit set gives FFh; no task that waits to be confirmed gives 15. COMPLETE set: the task
--- is ended, BYTE OFFSET is not looked at. COMPLETE clear: an offset past the bytes transferred gives FFh; else the
--- task waits again, to start there. Neither the mark nor the attention of the sender is looked at
-unfoldable pub confirm_plan : Pick → ℕ → ℕ → List ℕ → ℕ → Bool → Plan
+-- CONFIRM STATUS, by the task that waits to be confirmed: where there is none, 15. COMPLETE set: the task is ended, BYTE
+-- OFFSET is not looked at. COMPLETE clear: an offset past the bytes transferred gives FFh; else the task waits again, to
+-- start there. Neither the mark nor the attention of the sender is looked at
+abbrev pub confirmed : option.Option Pick → ℕ → ℕ → ℕ → Bool → Plan
+confirmed None p tag offset complete = refusing Codes.nothing_to_confirm
+confirmed (Some own) p tag offset complete =
+    cond complete (planned (Ok (answer.Confirmed own.task.arrival)) change.Nothing (records.Complete (numbered_as own.task.arrival p tag)))
+    (cond (ltb (transferred_of own.task) offset) (planned (Ok (answer.Reply (reply.Response tag Codes.invalid_field))) change.Nothing records.Nothing)
+    (planned (Ok (answer.Restarted own.task.arrival)) change.Nothing (records.Restart own.at offset)))
+
+-- and before that, a reserved bit set gives FFh
+unfoldable pub confirm_plan : option.Option Pick → ℕ → ℕ → List ℕ → ℕ → Bool → Plan
 confirm_plan own p tag m offset complete =
     cond (reserved_set m) (planned (Ok (answer.Reply (reply.Response tag Codes.invalid_field))) change.Nothing records.Nothing)
-    (cond (not (is_awaited own)) (refusing Codes.nothing_to_confirm)
-    (cond complete (planned (Ok (answer.Confirmed own.task.arrival)) change.Nothing (records.Complete (numbered_as own.task.arrival p tag)))
-    (cond (ltb (transferred_of own.task) offset) (planned (Ok (answer.Reply (reply.Response tag Codes.invalid_field))) change.Nothing records.Nothing)
-    (planned (Ok (answer.Restarted own.task.arrival)) change.Nothing (records.Restart own.at offset)))))
+    (confirmed (awaited own) p tag offset complete)
 
 abbrev pub plan_of : Lookup → ℕ → ℕ → ℕ → List ℕ → Request → Plan
 plan_of s next p tag m (Command lun flags) = ruled next p tag lun flags (deciding s.facts flags m).gives
@@ -175,5 +181,5 @@ units_after units change.Nothing = units
 units_after units (change.OfSender p sender) = units
 units_after units (change.Holding p sender unit) = claimed_in units unit p
 units_after units (change.ClearedAttention others) = units
-units_after units (change.AcaGoes unit) = aca_cleared_in units (On unit)
+units_after units (change.AcaGoes unit) = aca_cleared_in units (Some unit)
 units_after units (change.Resets place) = aca_cleared_in units place

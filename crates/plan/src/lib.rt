@@ -2,7 +2,7 @@
 #![tactic(auto)]
 
 ghost use Rattle.std.specs.Prelude.{◌≡◌};
-ghost use Rattle.plan.specs.Plans.{asking, asked_of, tag_asked, unit_asked, clears_set, goes_by_unit, sequel_of, planned, refusing, report_change, ruled, order_plan, is_awaited, confirm_plan, plan_of, sender_after, paths_after, units_after};
+ghost use Rattle.plan.specs.Plans.{asking, asked_of, tag_asked, unit_asked, clears_set, goes_by_unit, sequel_of, planned, refusing, report_change, ruled, order_plan, awaited, confirm_plan, plan_of, sender_after, paths_after, units_after};
 
 use reply::Reply;
 use rules::change::{Change, QueueChange, SenderChange};
@@ -11,7 +11,7 @@ use rules::facts::{Facts, Lookup};
 use rules::manage::Order;
 use table::{PATHS, Path, UNITS, Unit};
 use task::scan::Pick;
-use task::select::{Place, Selection};
+use task::select::Selection;
 use task::{Kind, Phase, Sequel};
 use wire::codes::{Refusal, ReturnCode};
 use wire::message::{Flags, Message};
@@ -269,35 +269,26 @@ fn plan_order(f: Facts, others: u8, p: u8, tag: u16, m: &[u8], o: Order) -> Plan
     tell(answer)
 }
 
-// Whether a task was picked that waits to be confirmed.
-fn is_awaited(p: Pick) -> bool
-    ensures { result ≡ is_awaited p }
+// The task that was picked, where it waits to be confirmed.
+fn awaited(own: Option<Pick>) -> Option<Pick>
+    ensures { result ≡ awaited own }
 {
-    if !p.found {
-        return false;
-    }
-    let task = p.task;
-    let phase = task.phase;
-    match phase {
-        Phase::Waiting => false,
-        Phase::Running => false,
-        Phase::Unconfirmed => true,
-    }
+    own.filter(|p| p.task.phase == Phase::Unconfirmed)
 }
 
 // The plan for CONFIRM STATUS of the path at p, whose task with the tag is its own: it is ended, or it waits again
 // where the offset lies within the bytes transferred.
 #[tactic(auto, unfolding(crate::specs::Plans::confirm_plan))]
-fn plan_confirm(own: Pick, p: u8, tag: u16, m: &[u8], offset: u32, complete: bool) -> Plan
+fn plan_confirm(own: Option<Pick>, p: u8, tag: u16, m: &[u8], offset: u32, complete: bool) -> Plan
     ensures { result ≡ confirm_plan own p tag m.now offset complete }
 {
     let code = ReturnCode::INVALID_FIELD;
     if wire::message::reserved_set(m) {
         return tell(Ok(Answer::Reply(Reply::Response { tag, code })));
     }
-    if !is_awaited(own) {
+    let Some(own) = awaited(own) else {
         return refuse(Refusal::NothingToConfirm);
-    }
+    };
     let task = own.task;
     let arrival = task.arrival;
     if complete {
@@ -384,7 +375,7 @@ pub fn change_units(units: [Unit; UNITS], c: Change) -> [Unit; UNITS]
             unit,
         } => table::units::claim(units, unit, path),
         Change::ClearedAttention(_) => units,
-        Change::AcaGoes(unit) => table::units::clear_aca(units, Place::On(unit)),
+        Change::AcaGoes(unit) => table::units::clear_aca(units, Some(unit)),
         Change::Resets(place) => table::units::clear_aca(units, place),
     }
 }
