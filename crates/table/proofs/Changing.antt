@@ -1,6 +1,6 @@
 -- The answers of paths, units and changes: a lemma for each way out, and for each turn of a loop. Assumes nothing.
 --     bounded                  for `search`, a choice by a bound
---     path_loop, end_loop      for `search (rules, ..)`, the turns of the loops over the paths and over the records
+--     end_loop      for `search (rules, ..)`, the turns of the loop over the records;        path_through, path_kept      those of the loops over the paths
 --     others_loop      for `search`, the start, the bound and the end of the loop over the others; its turns are others_add and others_skip
 --     aca_ways, room_ways, alter_ways      for `search`, the ways out of the functions on ACA, on room and acceptance, and on a record that changes
 use Prim.Native.Nat.{ℕ, ◌+◌, ◌^◌, ◌≤◌, ◌<◌}
@@ -11,7 +11,7 @@ use mathlib.Core.Logic.{⊎_elim}
 use native.Mathlib.Nat.{le_refl, le_antisymm, le_of_eq, lt_trans}
 use native.Mathlib.Omega.{arith}
 use lib.Dec.{eqb, leb}
-use lib.ListN.{length, get_or, set, replicate}
+use lib.ListN.{length, get_or, set, replicate, length-set}
 use lib.Seq.{set-get_or}
 use borrow.Author.Tests.{lt-ltb, le-ltb, le-leb, lt-leb, not-true, not-false}
 use Rattle.task.specs.Index.{first, map_of, map_at}
@@ -26,7 +26,7 @@ use Rattle.task.specs.declared.select.Place.{Place}
 use Rattle.task.specs.declared.select.Place.TheVariants.{Anywhere, On}
 use Rattle.task.proofs.Ways.{cond_below, cond_past, answered_true, answered_false}
 use Rattle.task.proofs.Places.{lt_or_le, first_before, first_none, map_of_ext}
-use Rattle.task.proofs.Lists.{map_below, map_below_ahead, map_below_zero, map_below_step, map_below_put, map_below_skip, map_below_all}
+use Rattle.task.proofs.Lists.{map_below, map_below_ahead, map_below_zero, map_below_step, map_below_put, map_below_skip, map_below_all, length_map_below}
 use Rattle.task.proofs.Bits.{map_of_lt}
 use Rattle.task.proofs.Loops.{map_of_start, map_of_add, map_of_skip}
 use Rattle.task.proofs.Clearing.{clear_below, clear_zero, clear_step, clear_skip, clear_ahead, clear_all}
@@ -69,20 +69,29 @@ module _ (l : List path.Path) (q : ℕ → Bool) (g : path.Path → path.Path) w
   unfolding paths_below
   paths_start = sym (map_below_zero through l no_path)
 
-  module _ {m : List path.Path} (k : ℕ) (e : m ≡ paths_below k) where
-    pub path_through : {v : List path.Path} {a : path.Path} → v ≡ set m k a → a ≡ g (get_or m k no_path) → q k ≡ true → k < 8 → length l ≡ 8 → v ≡ paths_below (k + 1)
+  module _ {m : List path.Path} (k : ℕ) (e : m ≡ paths_below k) (n : length m ≡ 8) where
+    -- the list stays as long
+    as_long : length m ≡ length l
     unfolding paths_below
-    path_through d c b h n = d ∙ rw e (map_below_put through l no_path k (omega arith) (rw b (c ∙ rw e)))
+    as_long = ap length e ∙ length_map_below k through l
 
-    pub path_kept : {v : List path.Path} → v ≡ m → q k ≡ false → v ≡ paths_below (k + 1)
+    -- a turn's list, which has x at k, is that of k + 1
+    next : {v : List path.Path} {x : path.Path} → v ≡ set m k x → x ≡ through k (get_or m k no_path) → k < 8 → (v ≡ paths_below (k + 1)) × (length v ≡ 8)
     unfolding paths_below
-    path_kept d b = d ∙ e ∙ map_below_skip through l no_path k (rw b)
+    next {v} {x} d c h =
+        let p : v ≡ paths_below (k + 1) = d ∙ rw e (map_below_put through l no_path k (omega (arith, as_long)) (c ∙ rw e)) in
+        (p, ap length d ∙ length-set m k x ∙ n)
 
-    pub paths_end : k ≤ 8 → 8 ≤ k → length l ≡ 8 → m ≡ map_at through 0 l
+    pub path_through : {v : List path.Path} {a : path.Path} → v ≡ set m k a → a ≡ g (get_or m k no_path) → q k ≡ true → k < 8
+        → (v ≡ paths_below (k + 1)) × (length v ≡ 8)
+    path_through d c b h = next d (c ∙ rw b) h
+
+    pub path_kept : {v : List path.Path} → v ≡ set m k (get_or m k no_path) → q k ≡ false → k < 8 → (v ≡ paths_below (k + 1)) × (length v ≡ 8)
+    path_kept d b h = next d (rw b) h
+
+    pub paths_end : k ≤ 8 → 8 ≤ k → m ≡ map_at through 0 l
     unfolding paths_below
-    paths_end h j n = e ∙ map_below_all through l no_path k (n ∙ le_antisymm j h)
-
-pub ruleset path_loop = (paths_start, path_through, path_kept, lt-ltb, le-ltb, answered_true, answered_false, unmapped)
+    paths_end h j = e ∙ map_below_all through l no_path k (omega (arith, as_long))
 
 -- ---- a unit's ACA
 

@@ -123,14 +123,11 @@ impl Table {
     {
         let mut paths: u64 = 0;
         let mut found = false;
-        let mut i: usize = 0;
-        while i < RECORDS {
-            let a = self.tasks[i];
-            if task::select::picked_live(self.live, s, i, a) {
+        for (i, a) in self.tasks.iter().enumerate() {
+            if task::select::picked_live(self.live, s, i, *a) {
                 paths = task::map::with_bit(paths, a.path as usize);
                 found = true;
             }
-            i += 1;
         }
         Holders { paths, found }
     }
@@ -140,13 +137,10 @@ impl Table {
         ensures { result ≡ running_among self s }
     {
         let mut units: u64 = 0;
-        let mut i: usize = 0;
-        while i < RECORDS {
-            let a = self.tasks[i];
-            if runs_picked(self.live, s, i, a) {
+        for (i, a) in self.tasks.iter().enumerate() {
+            if runs_picked(self.live, s, i, *a) {
                 units = task::map::with_bit(units, a.unit as usize);
             }
-            i += 1;
         }
         (units % 256) as u8
     }
@@ -157,13 +151,11 @@ impl Table {
     {
         let held = self.holders(Selection::on_unit(unit));
         let mut map: u8 = 0;
-        let mut p: u8 = 0;
-        while p < MOST_PATHS {
+        for p in 0..MOST_PATHS {
             let has = task::map::is_live(held.paths, p as usize);
             if is_other_on(self.count, sender, p, has) {
                 map = with_path(map, p);
             }
-            p += 1;
         }
         map
     }
