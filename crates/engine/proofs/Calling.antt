@@ -5,6 +5,7 @@
 --     unread, others_sought, none_sought, read_by, read_by_unit, carries_nothing, carries_out, carries_order, carries      a message: the plan for what was heard, the table after it, and the outcome
 --     starts, finishes, reset_refused, resets      the outcome, by what was asked of the table, the verdict and the step
 --     answers      the contract of a call with a reply buffer
+use Rattle.std.specs.Prelude.{Option}
 use Prim.Native.Nat.{ℕ, ◌<◌, ◌≤◌}
 use mathlib.Core.Path.{◌≡◌, refl, sym, ap, ◌∙◌}
 use mathlib.Core.Bool.{Bool, true, false, cond, not, ◌&&◌, ◌||◌}
@@ -44,7 +45,6 @@ use Rattle.table.specs.Setup.{bad_list, setup_table}
 use Rattle.sound.specs.Sound.{sound_of}
 use Rattle.sound.proofs.Exact.{check_is_exact}
 use Rattle.sound.proofs.Keeps.{reset_ends}
-use Rattle.table.specs.declared.Aca.{Aca}
 use Rattle.table.specs.declared.Path as path
 use Rattle.table.specs.declared.Unit as unit
 use Rattle.table.specs.declared.Table.{Table}
@@ -254,7 +254,7 @@ carries t m room s h p c g f d k = rw (g, c, d, k, f, p, h, s) (carried_heard t 
 
 -- ---- start
 
-module _ (aca : Aca) (lun : ℕ) {b : Bool} (e : b ≡ has_aca aca) where
+module _ (aca : Option ℕ) (lun : ℕ) {b : Bool} (e : b ≡ has_aca aca) where
   pub go_aca : {s : Selection} → b ≡ true → s ≡ aca_waiting_on lun → s ≡ may_go aca lun
   go_aca h k = rw (← e, h) k
 
