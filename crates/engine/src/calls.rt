@@ -229,7 +229,7 @@ pub fn start(mut t: Table, unit: u8) -> Outcome
     let u = t.unit_at(unit);
     let aca = u.aca;
     let p = t.pick(may_go(aca, unit));
-    let v = choose(sound, t.is_attached(unit), running.found, p);
+    let v = choose(sound, t.is_attached(unit), running.is_some(), p);
     let answer = v.answer;
     t = t.step(Step::Alter {
         place: v.place,

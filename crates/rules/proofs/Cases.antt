@@ -17,7 +17,9 @@ use Rattle.task.specs.Selections.{named, aca_on}
 use Rattle.task.specs.declared.select.Selection.{Selection}
 use Rattle.table.specs.Tables.{path_at, unit_at, is_attached, has_aca, owned_by, has_room, others_on, pick_of}
 use Rattle.table.specs.Steps.{holders_of}
-use Rattle.table.specs.declared.changes.Holders.{Holders}
+use Rattle.table.proofs.Stepping.{holders_found}
+use Rattle.std.specs.Option.{is_some}
+use Rattle.std.specs.Prelude.{Option}
 use Rattle.table.specs.declared.Path as path
 use Rattle.table.specs.declared.Unit as unit
 use Rattle.task.specs.declared.scan.Pick.{Pick}
@@ -36,7 +38,7 @@ use Rattle.rules.specs.declared.manage.Order.{Order}
 pub picks_so : (t : Table) (q : Selection) {s : Selection} {p : Pick} → s ≡ q → p ≡ pick_of t s → p ≡ pick_of t q
 picks_so t q e h = rw e at h
 
-pub holds_so : (t : Table) (q : Selection) {s : Selection} {h : Holders} → s ≡ q → h ≡ holders_of t s → h ≡ holders_of t q
+pub holds_so : (t : Table) (q : Selection) {s : Selection} {h : Option ℕ} → s ≡ q → h ≡ holders_of t s → h ≡ holders_of t q
 holds_so t q e h = rw e at h
 
 module _ (t : Table) (p lun : ℕ) {clears : Bool} {n : ℕ} where
@@ -46,9 +48,9 @@ module _ (t : Table) (p lun : ℕ) {clears : Bool} {n : ℕ} where
   pub nobody_asked : n ≡ 0 → clears ≡ false → n ≡ cond clears (others_on t lun p) 0
   nobody_asked e a = e ∙ rw a
 
-module _ (t : Table) (p tag lun : ℕ) {s : path.Path} {u : unit.Unit} {own : Pick} {rival : Holders} {room attached aca owned : Bool} {n others : ℕ} where
+module _ (t : Table) (p tag lun : ℕ) {s : path.Path} {u : unit.Unit} {own : Pick} {rival : Option ℕ} {room attached aca owned busy : Bool} {n others : ℕ} where
   pub looked_up :
-      s ≡ path_at t p → u ≡ unit_at t lun → own ≡ pick_of t (named p tag) → rival ≡ holders_of t (aca_on lun) → room ≡ has_room t → attached ≡ is_attached t lun → aca ≡ has_aca u.aca
+      s ≡ path_at t p → u ≡ unit_at t lun → own ≡ pick_of t (named p tag) → rival ≡ holders_of t (aca_on lun) → busy ≡ is_some rival → room ≡ has_room t → attached ≡ is_attached t lun → aca ≡ has_aca u.aca
       → owned ≡ owned_by u.aca p → others ≡ n
       → record {
         facts = record {
@@ -59,14 +61,14 @@ module _ (t : Table) (p tag lun : ℕ) {s : path.Path} {u : unit.Unit} {own : Pi
           attached = attached;
           aca = aca;
           owned = owned;
-          busy = rival.found;
+          busy = busy;
         };
         own = own;
         others = others;
       }
       ≡ lookup_of t p tag lun n
-  unfolding facts_of lookup_of holders_of
-  looked_up e h a b c d f g k = rw (a, b, c, d, f, g, k, e, h)
+  unfolding facts_of lookup_of
+  looked_up e h a b y c d f g k = rw (a, y, b, holders_found t (aca_on lun), c, d, f, g, k, e, h)
 
 pub ruleset look_up_cases = (looked_up, picks_so, holds_so, others_asked, nobody_asked)
 
