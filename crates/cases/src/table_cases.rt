@@ -3,7 +3,7 @@ use crate::cases::bad_case;
 use crate::engine_cases::{arrival, has};
 use crate::print::{counted, counted_if, decimal, hex, hex_long, hex_map, hex_word, text, word_if};
 use std::io;
-use table::{Aca, Attention, PATHS, Path, Table, UNITS, Unit};
+use table::{Attention, PATHS, Path, Table, UNITS, Unit};
 use task::map::is_live;
 use task::{Kind, Phase, RECORDS, Sequel, Task};
 use wire::fields::byte_at;
@@ -67,10 +67,9 @@ fn show_paths(rt: &impl Print, t: Table) -> io::Result<()> {
 
 // A unit that has ACA, and the owner's place.
 fn show_unit(rt: &impl Print, u: u8, a: Unit) -> io::Result<()> {
-    let aca = a.aca;
-    match aca {
-        Aca::Clear => Ok(()),
-        Aca::Owned(p) => {
+    match a.aca {
+        None => Ok(()),
+        Some(p) => {
             counted(rt, b"; aca ", u as u64)?;
             counted(rt, b" of ", p as u64)
         }
@@ -285,11 +284,11 @@ fn with_path(mut t: Table, field: u8, i: usize, value: u8) -> Table {
 }
 
 // The ACA of an owner, and none for FFh.
-fn aca_of(value: u8) -> Aca {
+fn aca_of(value: u8) -> Option<u8> {
     if value == 0xff {
-        return Aca::Clear;
+        return None;
     }
-    Aca::Owned(value)
+    Some(value)
 }
 
 // The table with the ACA of unit i set.

@@ -2,7 +2,7 @@
 --     unread, others_sought, none_sought, read_by, read_by_unit, carries_nothing, carries_out, carries_order, carries      a message: the plan for what was heard, the table after it, and the outcome
 --     starts, finishes, reset_refused, resets      the outcome, by what was asked of the table, the verdict and the step
 --     answers      the contract of a call with a reply buffer
-use Rattle.std.specs.Prelude.{Result, Ok, Err}
+use Rattle.std.specs.Prelude.{Result, Ok, Err, Option}
 use Prim.Native.Nat.{ℕ, ◌<◌, ◌≤◌}
 use mathlib.Core.Path.{◌≡◌, refl, sym, ap, ◌∙◌}
 use mathlib.Core.Bool.{Bool, true, false, cond, not, ◌&&◌, ◌||◌}
@@ -33,7 +33,8 @@ use Rattle.task.proofs.Maps.{gone_none}
 use Rattle.task.proofs.Next.{scan_stands}
 use Rattle.table.specs.Tables.{path_of, path_at, unit_at, task_at, is_attached, has_aca, pick_of, others_on, reset_attention_in, aca_cleared_in, with_paths, with_units, finished}
 use Rattle.table.specs.Steps.{stepped, finish_step, finish_units, holders_of, running_among}
-use Rattle.table.specs.declared.changes.Holders.{Holders}
+use Rattle.table.proofs.Stepping.{holders_found}
+use Rattle.std.specs.Option.{is_some}
 use Rattle.table.specs.declared.steps.Alteration.TheVariants.{Run, Restart}
 use Rattle.table.specs.declared.steps.Step.{Step}
 use Rattle.table.specs.declared.steps.Step.TheVariants as step
@@ -42,7 +43,6 @@ use Rattle.table.specs.Setup.{bad_list, setup_table}
 use Rattle.sound.specs.Sound.{sound_of}
 use Rattle.sound.proofs.Exact.{check_is_exact}
 use Rattle.sound.proofs.Keeps.{reset_ends}
-use Rattle.table.specs.declared.Aca.{Aca}
 use Rattle.table.specs.declared.Path as path
 use Rattle.table.specs.declared.Unit as unit
 use Rattle.table.specs.declared.Table.{Table}
@@ -182,10 +182,10 @@ pub chosen : (t : Table) (lun : ℕ) {u : unit.Unit} {s : Selection} {p : Pick} 
 unfolding choice_on
 chosen t lun e h k = k ∙ rw (h, e)
 
-pub starts : (t : Table) (lun : ℕ) {b f : Bool} {q : Selection} {h : Holders} {p : Pick} {v : Verdict} {u : Table} → b ≡ sound_of t → q ≡ running_on lun → h ≡ holders_of t q → p ≡ choice_on t lun → f ≡ is_attached t lun
-    → v ≡ chosen_by b f h.found p → u ≡ stepped t (step.Alter v.place Run) → settled v u ≡ start_of t lun
-unfolding start_of start_verdict chosen_by holders_of stepped
-starts t lun s k h c d e g = rw (g, e, s, h, k, c, d)
+pub starts : (t : Table) (lun : ℕ) {b f r : Bool} {q : Selection} {h : Option ℕ} {p : Pick} {v : Verdict} {u : Table} → b ≡ sound_of t → q ≡ running_on lun → h ≡ holders_of t q → r ≡ is_some h → p ≡ choice_on t lun → f ≡ is_attached t lun
+    → v ≡ chosen_by b f r p → u ≡ stepped t (step.Alter v.place Run) → settled v u ≡ start_of t lun
+unfolding start_of start_verdict chosen_by stepped
+starts t lun s k h y c d e g = rw (g, e, s, y, h, k, holders_found t (running_on lun), c, d)
 
 -- ---- finish
 

@@ -1,6 +1,6 @@
 -- M-103: what an answer to a command does to the ACA of the units, by the rule that decides. Assumes nothing.
 use Rattle.wire.specs.declared.codes.Refusal.{Refusal}
-use Rattle.std.specs.Prelude.{Result, Ok}
+use Rattle.std.specs.Prelude.{Result, Ok, Option, Some, None}
 use Prim.Native.Nat.{ℕ, ◌<◌, ◌^◌}
 use mathlib.Core.Path.{◌≡◌, refl, sym, ap, subst, ◌∙◌}
 use mathlib.Core.Bool.{true, false, ◌&&◌}
@@ -17,8 +17,6 @@ use Rattle.task.proofs.Ways.{never, both}
 use Rattle.task.proofs.Places.{lt_or_le}
 use Rattle.task.proofs.Bits.{dead_past}
 use Rattle.table.specs.Tables.{no_path, path_of, is_attached, has_aca, owned_by, aca_at, marked_in, attention_gone_in, claimed_in}
-use Rattle.table.specs.declared.Aca.{Aca}
-use Rattle.table.specs.declared.Aca.TheVariants.{Clear, Owned}
 use Rattle.table.specs.declared.Attention.TheVariants as attention
 use Rattle.table.specs.declared.Path as path
 use Rattle.table.specs.declared.Unit as unit
@@ -86,12 +84,12 @@ module _ (t : Table) (g : Good t) (p tag lun : ℕ) (flags : Flags) (r : Rule) w
     owner : holds_queue x ≡ true → has_aca (aca_at t.units lun) ≡ true → owned_by (aca_at t.units lun) p ≡ true
 
   -- the ACA that a rule holds the queue by is the sender's
-  own_aca : (x : Ruling) → Known x → holds_queue x ≡ true → (q : ℕ) → aca_at t.units lun ≡ Owned q → q ≡ p
-  own_aca x k h q e = eqb-true q p (sym (ap (λ (o : Aca). owned_by o p) e) ∙ k.owner h (ap has_aca e))
+  own_aca : (x : Ruling) → Known x → holds_queue x ≡ true → (q : ℕ) → aca_at t.units lun ≡ Some q → q ≡ p
+  own_aca x k h q e = eqb-true q p (sym (ap (λ (o : Option ℕ). owned_by o p) e) ∙ k.owner h (ap has_aca e))
 
-  claimed_aca : (x : Ruling) → Known x → holds_queue x ≡ true → (o : Aca) → aca_at t.units lun ≡ o → aca_at (claimed_in t.units lun p) lun ≡ Owned p
-  claimed_aca x k h Clear e = claimed_free t.units g.shaped.units lun p (k.below h) e
-  claimed_aca x k h (Owned q) e = claimed_owned t.units g.shaped.units lun p lun q e ∙ ap Owned (own_aca x k h q e)
+  claimed_aca : (x : Ruling) → Known x → holds_queue x ≡ true → (o : Option ℕ) → aca_at t.units lun ≡ o → aca_at (claimed_in t.units lun p) lun ≡ Some p
+  claimed_aca x k h None e = claimed_free t.units g.shaped.units lun p (k.below h) e
+  claimed_aca x k h (Some q) e = claimed_owned t.units g.shaped.units lun p lun q e ∙ ap Some (own_aca x k h q e)
 
   ruled_aca : p < 8 → (x : Ruling) → Known x → let pl = ruled t.next p tag lun flags x in AcaAfter t (carried_out t pl) pl.answer r p lun
   unfolding carried_out with_records

@@ -1,4 +1,5 @@
 -- Every call keeps a table good, and setup's table is good. Assumes nothing.
+use Rattle.std.specs.Prelude.{Option, Some, None}
 use Prim.Native.Nat.{ℕ, ◌<◌}
 use mathlib.Core.Path.{◌≡◌, refl, sym, ap, ◌∙◌}
 use mathlib.Core.Bool.{Bool, true, false, cond, not, ◌&&◌}
@@ -22,8 +23,6 @@ use Rattle.task.proofs.Selecting.{meets, picks_every, picks_on, picks_aca_on, pi
 use Rattle.table.specs.Tables.{place_of, path_of, unit_at, task_at, is_attached, has_aca, owned_by, any_live, pick_of, has_room, others_on, with_paths, ended_by, marked_in, reset_attention_in}
 use Rattle.table.specs.View.{Shaped}
 use Rattle.sound.specs.Promises.{Good, MayCome}
-use Rattle.table.specs.declared.Aca.{Aca}
-use Rattle.table.specs.declared.Aca.TheVariants.{Clear, Owned}
 use Rattle.table.specs.declared.Table.{Table}
 use Rattle.table.proofs.Views.{live_at, pick_at, any_is_found, none_left}
 use Rattle.sound.proofs.Keeps.{accept_keeps, may_come as paths-may-come, end_keeps, start_keeps as start-task-keeps, restart_keeps, claim_keeps, clear_keeps, mark_keeps, attention_gone_keeps, reset_attention_keeps, cleared_attention_keeps, finish_keeps as finish-task-keeps, reset_keeps as reset-table-keeps, setup_is_good as setup-table-is-good}
@@ -55,9 +54,9 @@ listed_place : (t : Table) (id : ℕ) → path_of t id < 8 → path_of t id < t.
 unfolding place_of
 listed_place t id l = ltb-true _ _ (both _ _ (first_picks 8 _ l)).0
 
-pub owned_by_law : (o : Aca) (p : ℕ) → owned_by o p ≡ true → o ≡ Owned p
-owned_by_law Clear p e = let z : ◌≡◌ {A = ℕ} 0 1 = cc in absurd (omega arith)
-owned_by_law (Owned q) p e = ap Owned (eqb-true q p e)
+pub owned_by_law : (o : Option ℕ) (p : ℕ) → owned_by o p ≡ true → o ≡ Some p
+owned_by_law None p e = let z : ◌≡◌ {A = ℕ} 0 1 = cc in absurd (omega arith)
+owned_by_law (Some q) p e = ap Some (eqb-true q p e)
 
 -- ---- a command that is accepted may come
 
@@ -139,8 +138,8 @@ module _ (t : Table) (g : Good t) where
       none_left t (aca_from_on p lun) g.shaped (aca_on lun)
       (λ i a f.
       let h = aca_there a lun f.picked in
-      let q : (unit_at t a.unit).aca ≡ Owned a.path = g.sound.aca_owned i a f.below f.here h.1 in
-      let r : (unit_at t lun).aca ≡ Owned p = owned_by_law _ p o in
+      let q : (unit_at t a.unit).aca ≡ Some a.path = g.sound.aca_owned i a f.below f.here h.1 in
+      let r : (unit_at t lun).aca ≡ Some p = owned_by_law _ p o in
       let u : a.unit ≡ lun = h.0 in
       let s : a.path ≡ p = cc in
       picks_aca_from_on a p lun ∙ rw (eq-eqb _ _ s, eq-eqb _ _ u, h.1))

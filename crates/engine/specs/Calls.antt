@@ -14,6 +14,7 @@ use Rattle.reply.specs.declared.Reply.TheVariants as reply
 use Rattle.task.specs.Map.{gone}
 use Rattle.task.specs.Tasks.{offset_of}
 use Rattle.task.specs.Selections.{every_task, running_on, waiting_on, aca_waiting_on, running_as}
+use Rattle.std.specs.declared.option.Option as std
 use Rattle.task.specs.declared.Task.{Task}
 use Rattle.task.specs.declared.scan.Pick.{Pick}
 use Rattle.task.specs.declared.select.Selection.{Selection}
@@ -22,7 +23,6 @@ use Rattle.table.specs.Steps.{running_among}
 use Rattle.table.specs.Setup.{bad_list, setup_table}
 use Rattle.sound.specs.Sound.{sound_of}
 use Rattle.table.specs.declared.Table.{Table}
-use Rattle.table.specs.declared.Aca.{Aca}
 use Rattle.rules.specs.Facts.{lookup_of}
 use Rattle.rules.specs.declared.facts.Lookup.{Lookup}
 use Rattle.rules.specs.declared.change.Change.{Change}
@@ -141,7 +141,7 @@ abbrev pub closed : Verdict → Table → Table → Outcome
 closed v t u = ending t u v.answer v.to 0
 
 -- start, for a unit with nothing running: 13, 6, 7, 8. Under ACA only the ACA task may go
-abbrev pub may_go : Aca → ℕ → Selection
+abbrev pub may_go : std.Option ℕ → ℕ → Selection
 may_go aca unit = cond (has_aca aca) (aca_waiting_on unit) (waiting_on unit)
 
 unfoldable pub choice_on : Table → ℕ → Pick

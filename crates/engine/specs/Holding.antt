@@ -1,6 +1,6 @@
 -- M-103, a refused command holds the queue as well: which answers to a command give its unit an ACA, whose that is, and
 -- that no other answer to a command changes an ACA. Proved in proofs/Holding.antt.
-use Rattle.std.specs.Prelude.{Result, Ok, Err, ℕ, ◌<◌, ◌^◌, ◌≡◌, Bool, true, false, ◌&&◌, List, eqb}
+use Rattle.std.specs.Prelude.{Result, Ok, Err, ℕ, ◌<◌, ◌^◌, ◌≡◌, Bool, true, false, ◌&&◌, List, eqb, Some}
 use Rattle.std.proofs.Math.Option.{Option, none, some}
 use Rattle.wire.specs.Codes
 use Rattle.wire.specs.Messages.{read_of}
@@ -8,7 +8,6 @@ use Rattle.wire.specs.declared.message.Flags.{Flags}
 use Rattle.reply.specs.declared.Reply.{Reply}
 use Rattle.reply.specs.declared.Reply.TheVariants as reply
 use Rattle.table.specs.Tables.{path_of, path_at, is_attached, aca_at}
-use Rattle.table.specs.declared.Aca.TheVariants.{Owned}
 use Rattle.table.specs.declared.Attention.TheVariants as attention
 use Rattle.table.specs.declared.Table.{Table}
 use Rattle.sound.specs.Promises.{Good}
@@ -52,9 +51,9 @@ held_by r a = seven_to_ten r && says02 a
 -- a the answer, p the place of the sender
 pub record AcaAfter (t u : Table) (a : Result Answer Refusal) (r : Rule) (p lun : ℕ) : Type 0 where
   -- after a STATUS 02h by rules 7 to 10 the unit has ACA, and it is the sender's
-  pub sender : held_by r a ≡ true → aca_at u.units lun ≡ Owned p
+  pub sender : held_by r a ≡ true → aca_at u.units lun ≡ Some p
   -- where the unit had one before, that was the sender's too: nothing changes hands
-  pub its_own : held_by r a ≡ true → (q : ℕ) → aca_at t.units lun ≡ Owned q → q ≡ p
+  pub its_own : held_by r a ≡ true → (q : ℕ) → aca_at t.units lun ≡ Some q → q ≡ p
   -- the ACA of no other unit changes
   pub elsewhere : (unit : ℕ) → (unit ≡ lun → ⊥) → aca_at u.units unit ≡ aca_at t.units unit
   -- and no other answer to a command changes a unit's ACA: rule 6, 28h, 30h, RESPONSE, `invalid`, `accepted`, a refusal

@@ -13,7 +13,7 @@ use reply::Reply;
 use rules::facts::{Lookup, look_up, unit_alone};
 use sound::is_sound;
 use table::steps::{Alteration, Step, finish_step, finish_units};
-use table::{Aca, PATHS, Table};
+use table::{PATHS, Table};
 use task::RECORDS;
 use task::scan::Pick;
 use task::select::{Place, Selection};
@@ -163,7 +163,7 @@ pub fn message(mut t: Table, m: &[u8], reply: &mut [u8]) -> Outcome
 }
 
 // What may go next on the unit: under ACA only the ACA task.
-fn may_go(aca: Aca, unit: u8) -> Selection
+fn may_go(aca: Option<u8>, unit: u8) -> Selection
     ensures { result ≡ may_go aca unit }
 {
     if table::units::has_aca(aca) {
@@ -229,7 +229,7 @@ pub fn start(mut t: Table, unit: u8) -> Outcome
     let u = t.unit_at(unit);
     let aca = u.aca;
     let p = t.pick(may_go(aca, unit));
-    let v = choose(sound, t.is_attached(unit), running.found, p);
+    let v = choose(sound, t.is_attached(unit), running.is_some(), p);
     let answer = v.answer;
     t = t.step(Step::Alter {
         place: v.place,

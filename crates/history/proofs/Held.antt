@@ -1,6 +1,6 @@
 -- M-103 over any calls: the ACA of a unit stays until it is taken away, and meanwhile nothing but the ACA task is started
 -- there. Each call is looked at by its ways out, as for demand 3. Assumes nothing.
-use Rattle.std.specs.Prelude.{Result, Ok}
+use Rattle.std.specs.Prelude.{Result, Ok, Some, None}
 use Prim.Native.Nat.{ℕ, zero, suc, ◌<◌}
 use mathlib.Core.Path.{◌≡◌, refl, sym, ap, ◌∙◌}
 use mathlib.Core.Bool.{Bool, true, false, cond, ◌&&◌}
@@ -28,7 +28,6 @@ use Rattle.task.proofs.Ways.{never, both}
 use Rattle.task.proofs.Selecting.{meets, aca_number, running_number}
 use Rattle.table.specs.Tables.{path_of, pick_of, has_room, others_on, unit_at, has_aca, aca_at, new_task, accepted, ended_by, altered_at, started, claimed_by}
 use Rattle.table.specs.View.{Shaped, at}
-use Rattle.table.specs.declared.Aca.TheVariants.{Clear, Owned}
 use Rattle.table.specs.declared.Unit as held
 use Rattle.table.specs.declared.Table.{Table}
 use Rattle.table.proofs.Views.{OnlyTasks, Found, not_both, live_at, spared, at_put, at_put_other, at_ended, altered_at_law, altered_other, same_at, accepted_only, ended_only, altered_only, finished_ways, pick_at}
@@ -108,7 +107,7 @@ module _ (t : Table) (h : Shaped t) (i : ℕ) (l : i < 64) where
       ])
       (λ _ a e _. e)
 
-owner_is : {p q : ℕ} → Owned p ≡ Owned q → p ≡ q
+owner_is : {p q : ℕ} → Some p ≡ Some q → p ≡ q
 owner_is e = cc
 
 -- of two tests that do not both hold
@@ -147,7 +146,7 @@ module _ (t : Table) (g : Good t) (p unit : ℕ) where
         by_request (Confirm offset complete) = refl
 
   -- an order that takes the ACA away, and is carried out
-  order_clear : (others q : ℕ) (o : Order) → order_releases p unit q o ≡ true → aca_at (units_after t.units (order_change others o)) unit ≡ Clear
+  order_clear : (others q : ℕ) (o : Order) → order_releases p unit q o ≡ true → aca_at (units_after t.units (order_change others o)) unit ≡ None
   order_clear others q (AbortTask tag2) h = absurd (never h refl)
   order_clear others q (AbortTaskSet lun) h = absurd (never h refl)
   order_clear others q (ClearTaskSet lun) h = absurd (never h refl)
@@ -156,38 +155,38 @@ module _ (t : Table) (g : Good t) (p unit : ℕ) where
   order_clear others q TargetReset h = cleared_all t.units unit
 
   plan_clear : (m : List ℕ) (q tag : ℕ) (w : Request) → (asks p unit q w && is_done (reply_of (plan_at t m q tag w).answer)) ≡ true
-      → aca_at (carried_out t (plan_at t m q tag w)).units unit ≡ Clear
+      → aca_at (carried_out t (plan_at t m q tag w)).units unit ≡ None
   unfolding carried_out with_records plan_at lookup_of order_plan
   plan_clear m q tag (Command lun flags) h = absurd (never h refl)
   plan_clear m q tag (Manage o) h =
       let others : ℕ = others_on t (unit_of o) q in
       let so = both (order_releases p unit q o) (done_by m q o) (sym (order_said m q tag o) ∙ h) in
-      cond_ind (λ (pl : Plan). aca_at (carried_out t pl).units unit ≡ Clear) (done_by m q o)
+      cond_ind (λ (pl : Plan). aca_at (carried_out t pl).units unit ≡ None) (done_by m q o)
       (λ _. ap (λ (l : List held.Unit). aca_at l unit) (only_units (ended_only (with_parts t (order_change others o)) (ends_of q o))) ∙ order_clear others q o so.0)
       (λ e. absurd (never so.1 e))
   plan_clear m q tag (Confirm offset complete) h = absurd (never h refl)
 
-  call_clear : (ids : List ℕ) → Lists ids t → (ev : Event) → releases ids p unit ev (engine ev t).answer ≡ true → aca_at (engine ev t).table.units unit ≡ Clear
+  call_clear : (ids : List ℕ) → Lists ids t → (ev : Event) → releases ids p unit ev (engine ev t).answer ≡ true → aca_at (engine ev t).table.units unit ≡ None
   unfolding engine
   call_clear ids names (Message m buf) =
-      each_message (λ (o : Outcome). releases ids p unit (Message m buf) o.answer ≡ true → aca_at o.table.units unit ≡ Clear) t
+      each_message (λ (o : Outcome). releases ids p unit (Message m buf) o.answer ≡ true → aca_at o.table.units unit ≡ None) t
       (λ _ h. absurd (never (both (ask_releases ids p unit (asked_in (read_of m))) false h).1 refl)) m
       (λ path tag w e l h. plan_clear m (path_of t path) tag w (sym (releases_so ids names m buf path tag w e l (plan_at t m (path_of t path) tag w).answer) ∙ h)) (length buf)
   call_clear ids names (Start v) = λ h. absurd (never h refl)
   call_clear ids names (Finish arrival status sense transferred buf) = λ h. absurd (never h refl)
   call_clear ids names TotalReset =
-      each_reset (λ (o : Outcome). says_reset o.answer ≡ true → aca_at o.table.units unit ≡ Clear) t (λ _ h. absurd (never h refl)) (λ _. reset_all t unit)
+      each_reset (λ (o : Outcome). says_reset o.answer ≡ true → aca_at o.table.units unit ≡ None) t (λ _ h. absurd (never h refl)) (λ _. reset_all t unit)
 
 -- ---- one call, on a sound table in which the unit has ACA of the path at p
 
-module _ (t : Table) (g : Good t) (p unit : ℕ) (owned : aca_at t.units unit ≡ Owned p) where
+module _ (t : Table) (g : Good t) (p unit : ℕ) (owned : aca_at t.units unit ≡ Some p) where
   -- it has that ACA still, and what runs there is the ACA task, or ran there before
   abbrev Kept : Table → Type 0
-  Kept u = (aca_at u.units unit ≡ Owned p)
+  Kept u = (aca_at u.units unit ≡ Some p)
       × ((i : ℕ) (a : Task) → i < 64 → at u i ≡ some a → a.unit ≡ unit → is_running a.phase ≡ true → is_aca a.kind ≡ false → at t i ≡ some a)
 
   -- where everything that runs ran before
-  keeps : (u : Table) → aca_at u.units unit ≡ Owned p → ((i : ℕ) → i < 64 → Ran t u i) → Kept u
+  keeps : (u : Table) → aca_at u.units unit ≡ Some p → ((i : ℕ) → i < 64 → Ran t u i) → Kept u
   keeps u aca ran = (aca, λ i a l e _ r _. ran i l a e r)
 
   same : Kept t
@@ -195,7 +194,7 @@ module _ (t : Table) (g : Good t) (p unit : ℕ) (owned : aca_at t.units unit �
 
   -- the units alone change, or the paths
   abbrev StaysOwned : Change → Type 0
-  StaysOwned c = aca_at (units_after t.units c) unit ≡ Owned p
+  StaysOwned c = aca_at (units_after t.units c) unit ≡ Some p
 
   parts_kept : (c : Change) → StaysOwned c → Kept (with_parts t c)
   parts_kept c aca = keeps _ aca (λ i l a e r. sym (same_at t _ _ i) ∙ e)
@@ -228,7 +227,7 @@ module _ (t : Table) (g : Good t) (p unit : ℕ) (owned : aca_at t.units unit �
   order_owned m q (ClearTaskSet lun) free e = owned
   order_owned m q (ClearAca lun) free e = elim (ℕ_discrete unit lun) [
     | yes k ↦
-        let mine : aca_at t.units lun ≡ Owned q = owned_by_law (aca_at t.units lun) q (owner_clears (facts_of t q 0 lun) m lun e) in
+        let mine : aca_at t.units lun ≡ Some q = owned_by_law (aca_at t.units lun) q (owner_clears (facts_of t q 0 lun) m lun e) in
         let both_so : p ≡ q = owner_is (sym owned ∙ ap (aca_at t.units) k ∙ mine) in
         absurd (never (rw (eq-eqb lun unit (sym k), eq-eqb q p (sym both_so))) free)
     | no n ↦ cleared_elsewhere t.units lun unit n ∙ owned
@@ -295,7 +294,7 @@ module _ (t : Table) (g : Good t) (p unit : ℕ) (owned : aca_at t.units unit �
       let c : Task = (choice_on t unit).task in
       let f = pick_at t _ g.shaped found in
       let goes = goes_on unit k c f in
-      let mine : aca_at t.units c.unit ≡ Owned c.path = g.sound.aca_owned k c f.below f.here (goes.1 refl) in
+      let mine : aca_at t.units c.unit ≡ Some c.path = g.sound.aca_owned k c f.below f.here (goes.1 refl) in
       let whose : c.path ≡ p = owner_is (sym mine ∙ ap (aca_at t.units) goes.0 ∙ owned) in
       (k, c, record { below = f.below; here = f.here; kind = goes.1 refl; there = goes.0; owner = whose }, cc))
       (sym (ap (λ (x : Outcome). x.answer) e) ∙ h)
@@ -311,8 +310,8 @@ module _ (t : Table) (g : Good t) (p unit : ℕ) (owned : aca_at t.units unit �
       let c : Task = (pick_of t w).task in
       let f = pick_at t w g.shaped found in
       let running : is_running c.phase ≡ true = sym (running_number c.phase) ∙ (meets w c f.picked).stage in
-      let still : aca_at (claimed_by t c (failed status)).units unit ≡ Owned p =
-      cond_ind (λ (l : List held.Unit). aca_at l unit ≡ Owned p) (failed status) (λ _. claimed_owned t.units g.shaped.units c.unit c.path unit p owned) (λ _. owned) in
+      let still : aca_at (claimed_by t c (failed status)).units unit ≡ Some p =
+      cond_ind (λ (l : List held.Unit). aca_at l unit ≡ Some p) (failed status) (λ _. claimed_owned t.units g.shaped.units c.unit c.path unit p owned) (λ _. owned) in
       finished_ways t k (failed status) transferred f.below f.here running Kept
       (λ _. keeps _ still (λ i l a e r. ran_altered t g.shaped i l k _ refl (f.below, c, f.here) a (sym (same_at (altered_at t k (awaits transferred c)) _ _ i) ∙ e) r))
       (λ _. keeps _ still (λ i l a e r. ran_ended t g.shaped i l _ a (sym (same_at (ended_by t (running_as c.arrival)) _ _ i) ∙ e) r)))
@@ -354,7 +353,7 @@ good_after TotalReset t g = reset_keeps t g
 
 module _ (ids : List ℕ) (p unit : ℕ) where
   -- call k of a chain, by the first call and the rest
-  starts_of : (t : Table) (c : Call) (cs : List Call) → Good t → aca_at t.units unit ≡ Owned p → Engine c.event t c.outcome c.left → StaysHeld c.outcome.table cs p unit
+  starts_of : (t : Table) (c : Call) (cs : List Call) → Good t → aca_at t.units unit ≡ Some p → Engine c.event t c.outcome c.left → StaysHeld c.outcome.table cs p unit
       → (k : ℕ) (x : Call) (offset arrival : ℕ) → nth (c ∷ cs) k ≡ some x → x.event ≡ Start unit → x.outcome.answer ≡ Ok (answer.Started offset arrival)
       → (i : ℕ) × (a : Task) × AcaTask (given t (c ∷ cs) k) p unit i a × (a.arrival ≡ arrival)
   unfolding given nth engine
@@ -364,7 +363,7 @@ module _ (ids : List ℕ) (p unit : ℕ) where
       start_takes t g p unit owned offset arrival x.outcome (o ∙ ap (λ (ev : Event). engine ev t) s) h
   starts_of t c cs g owned made rest (suc k) x offset arrival e s h = rest.starts k x offset arrival e s h
 
-  stays_held : (t : Table) (cs : List Call) → Good t → Lists ids t → Chained Engine t cs → aca_at t.units unit ≡ Owned p → NoneReleases ids p unit cs → StaysHeld t cs p unit
+  stays_held : (t : Table) (cs : List Call) → Good t → Lists ids t → Chained Engine t cs → aca_at t.units unit ≡ Some p → NoneReleases ids p unit cs → StaysHeld t cs p unit
   unfolding last_table given nth
   stays_held t [] g names chain owned free = record {
     held = owned;
@@ -396,7 +395,7 @@ releases_it ids ev t o left p unit names x h =
 
 pub bad_command_holds : BadCommandHolds
 bad_command_holds ids t m buf o left path tag lun flags names c h =
-    let owned : aca_at o.table.units lun ≡ Owned (path_of t path) = (holds_queue_law t m buf o left path tag lun flags c).sender h in
+    let owned : aca_at o.table.units lun ≡ Some (path_of t path) = (holds_queue_law t m buf o left path tag lun flags c).sender h in
     let good : Good o.table = rw c.call.outcome (message_keeps t m (length buf) c.good) in
     let later : Lists ids o.table = lists_after ids (Message m buf) t o left names (record { good = c.good; call = c.call }) in
     record { owned = owned; behind = λ cs chain free. queue_is_held ids o.table cs (path_of t path) lun good later chain owned free }

@@ -1,7 +1,6 @@
 -- M-103, over any calls: while a unit has ACA, no start there takes anything but the ACA task, so that what waits behind
 -- a bad command is not executed. Proved in proofs/Held.antt; on the trace alone in proofs/HeldTrace.antt.
-use Rattle.std.specs.Prelude.{Result, Ok, Err}
-use Rattle.std.specs.Prelude.{ℕ, zero, suc, ◌<◌, ◌^◌, ◌≡◌, Bool, true, false, ◌&&◌, List, [], ◌∷◌, ◌++◌, map, take, eqb}
+use Rattle.std.specs.Prelude.{Result, Ok, Err, ℕ, zero, suc, ◌<◌, ◌^◌, ◌≡◌, Bool, true, false, ◌&&◌, List, [], ◌∷◌, ◌++◌, map, take, eqb, Some, None}
 use Rattle.std.proofs.Math.Option.{Option, none, some}
 use Rattle.wire.specs.declared.codes.Refusal.{Refusal}
 use Rattle.wire.specs.Codes
@@ -14,7 +13,6 @@ use Rattle.task.specs.Tasks.{is_aca, is_running}
 use Rattle.task.specs.declared.Task.{Task}
 use Rattle.table.specs.Tables.{path_of, bit_of, aca_at}
 use Rattle.table.specs.View.{at}
-use Rattle.table.specs.declared.Aca.TheVariants.{Clear, Owned}
 use Rattle.table.specs.declared.Table.{Table}
 use Rattle.sound.specs.Promises.{Good}
 use Rattle.rules.specs.declared.manage.Order.{Order}
@@ -85,7 +83,7 @@ NoneReleases ids p unit cs = (k : ℕ) (c : Call) → nth cs k ≡ some c → re
 -- such an event does take the ACA away: the unit has none after it
 abbrev pub ReleasesIt : Contract → Type 0
 ReleasesIt C = (ids : List ℕ) (ev : Event) (t : Table) (o : Outcome) (left : List ℕ) (p unit : ℕ) → Lists ids t → Made C ev t o left
-    → releases ids p unit ev o.answer ≡ true → aca_at o.table.units unit ≡ Clear
+    → releases ids p unit ev o.answer ≡ true → aca_at o.table.units unit ≡ None
 
 -- ---- until then: the unit has ACA, owned by the path at p, when the calls begin, and none of them takes it away
 
@@ -105,7 +103,7 @@ pub record AcaTask (t : Table) (p unit i : ℕ) (a : Task) : Type 0 where
 
 pub record StaysHeld (t : Table) (cs : List Call) (p unit : ℕ) : Type 0 where
   -- the unit has that ACA still, whatever failed there meanwhile
-  pub held : aca_at (last_table t cs).units unit ≡ Owned p
+  pub held : aca_at (last_table t cs).units unit ≡ Some p
   -- each start there that was not refused took the ACA task, the owner's
   pub starts : (k : ℕ) (c : Call) (offset arrival : ℕ) → nth cs k ≡ some c → c.event ≡ Start unit → c.outcome.answer ≡ Ok (answer.Started offset arrival)
       → (i : ℕ) × (a : Task) × AcaTask (given t cs k) p unit i a × (a.arrival ≡ arrival)
@@ -116,13 +114,13 @@ pub record StaysHeld (t : Table) (cs : List Call) (p unit : ℕ) : Type 0 where
 
 abbrev pub QueueIsHeld : Contract → Type 0
 QueueIsHeld C = (ids : List ℕ) (t : Table) (cs : List Call) (p unit : ℕ) → Good t → Lists ids t → Chained C t cs
-    → aca_at t.units unit ≡ Owned p → NoneReleases ids p unit cs → StaysHeld t cs p unit
+    → aca_at t.units unit ≡ Some p → NoneReleases ids p unit cs → StaysHeld t cs p unit
 
 -- ---- so behind a command that is answered STATUS 02h by rules 7 to 10
 
 -- its unit is held for the sender, until one of those events
 pub record HeldBehind (ids : List ℕ) (o : Outcome) (p lun : ℕ) : Type 0 where
-  pub owned : aca_at o.table.units lun ≡ Owned p
+  pub owned : aca_at o.table.units lun ≡ Some p
   pub behind : (cs : List Call) → Chained Engine o.table cs → NoneReleases ids p lun cs → StaysHeld o.table cs p lun
 
 abbrev pub BadCommandHolds : Type 0

@@ -55,7 +55,7 @@ pub fn look_up(t: Table, p: u8, tag: u16, lun: u8, clears: bool) -> Lookup
         attached: t.is_attached(lun),
         aca: table::units::has_aca(aca),
         owned: table::units::owned_by(aca, p),
-        busy: aca_held.found,
+        busy: aca_held.is_some(),
     };
     Lookup { facts, own, others }
 }

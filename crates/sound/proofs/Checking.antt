@@ -1,5 +1,6 @@
 -- The check's answers: the clauses that its walks ask at each place, a wiped record, and the owner of an ACA. Assumes
 -- nothing.
+use Rattle.std.specs.Prelude.{Some}
 use Prim.Native.Nat.{ℕ, ◌≤◌, ◌<◌}
 use mathlib.Core.Path.{◌≡◌}
 use mathlib.Core.Bool.{Bool, false, not, ◌&&◌, ◌||◌}
@@ -10,7 +11,6 @@ use Rattle.task.specs.declared.Task.{Task}
 use Rattle.task.proofs.Ways.{equal, below, past, and_no, and_yes}
 use Rattle.table.specs.Tables.{path_at, unit_at, task_at, aca_at, path_of, bit_of}
 use Rattle.sound.specs.Sound.{is_no_path, is_no_task, record_ok, unit_ok, clash_of}
-use Rattle.table.specs.declared.Aca.TheVariants.{Owned}
 use Rattle.table.specs.declared.Unit as unit
 use Rattle.table.specs.declared.Table.{Table}
 
@@ -43,7 +43,7 @@ no_numbers a n b t p u e = and_yes (equal n) (and_yes (equal b) (and_yes (equal 
 
 -- ---- an ACA with an owner
 
-module _ (count attached u : ℕ) {a : unit.Unit} {p : ℕ} (e : a.aca ≡ Owned p) where
+module _ (count attached u : ℕ) {a : unit.Unit} {p : ℕ} (e : a.aca ≡ Some p) where
   pub owner_unlisted : count ≤ p → false ≡ unit_ok count attached u a
   owner_unlisted h = rw e (and_no (bit_of attached u) (past h))
 

@@ -1,5 +1,6 @@
 -- The check is exact: it answers true for a table that is sound, and for no other. A lemma for each clause, each way.
 -- Assumes nothing.
+use Rattle.std.specs.Prelude.{Option, Some, None}
 use Prim.Native.Nat.{ℕ, ◌≤◌, ◌<◌}
 use mathlib.Core.Path.{◌≡◌, refl, sym, ap, ◌∙◌}
 use mathlib.Core.Bool.{Bool, true, false, not, ◌&&◌, ◌||◌, or-true}
@@ -26,8 +27,6 @@ use Rattle.table.specs.View.{at}
 use Rattle.sound.specs.Promises.{CheckIsExact}
 use Rattle.table.specs.declared.Attention.{Attention}
 use Rattle.table.specs.declared.Attention.TheVariants as attention
-use Rattle.table.specs.declared.Aca.{Aca}
-use Rattle.table.specs.declared.Aca.TheVariants.{Clear, Owned}
 use Rattle.table.specs.declared.Path as path
 use Rattle.table.specs.declared.Unit as unit
 use Rattle.table.specs.declared.Table.{Table}
@@ -148,14 +147,14 @@ pub record InOrder (count mask : ℕ) (units : List unit.Unit) (next : ℕ) (a :
   pub listed : a.path < count
   pub attached : bit_of mask a.unit ≡ true
   pub below : a.arrival < next
-  pub owned : is_aca a.kind ≡ true → aca_at units a.unit ≡ Owned a.path
+  pub owned : is_aca a.kind ≡ true → aca_at units a.unit ≡ Some a.path
 
 abbrev pub order_in : Table → ℕ → Task → Type 0
 order_in t next a = InOrder t.count t.attached t.units next a
 
-owner_is : (aca : Aca) (p : ℕ) → owned_by aca p ≡ true → aca ≡ Owned p
-owner_is Clear p h = absurd (never h refl)
-owner_is (Owned q) p h = ap Owned (eqb-true _ _ h)
+owner_is : (aca : Option ℕ) (p : ℕ) → owned_by aca p ≡ true → aca ≡ Some p
+owner_is None p h = absurd (never h refl)
+owner_is (Some q) p h = ap Some (eqb-true _ _ h)
 
 module _ (t : Table) (a : Task) where
   abbrev order_ok : Bool
@@ -173,7 +172,7 @@ module _ (t : Table) (a : Task) where
         owned = λ e. owner_is _ _ (rw e at k.1);
       }
 
-  may_stand_law : (is_aca a.kind ≡ true → (unit_at t a.unit).aca ≡ Owned a.path) → may_stand (unit_at t a.unit).aca a ≡ true
+  may_stand_law : (is_aca a.kind ≡ true → (unit_at t a.unit).aca ≡ Some a.path) → may_stand (unit_at t a.unit).aca a ≡ true
   may_stand_law f = elim (either_way (is_aca a.kind)) [ inl h ↦ rw (h, f h) (eq-eqb a.path a.path refl) | inr h ↦ rw h ]
 
   order_ok_law : order_in t t.next a → order_ok ≡ true
@@ -189,7 +188,7 @@ pub record Parts (t : Table) : Type 0 where
   pub unused_is_zero : (p : ℕ) → t.count ≤ p → p < 8 → path_at t p ≡ no_path
   pub order : (i : ℕ) (a : Task) → i < 64 → at t i ≡ some a → order_in t t.next a
   pub apart : (i j : ℕ) (a b : Task) → i < 64 → j < 64 → at t i ≡ some a → at t j ≡ some b → Clash a b → i ≡ j
-  pub owner : (u p : ℕ) → u < 8 → (unit_at t u).aca ≡ Owned p → (is_attached t u ≡ true) × (p < t.count)
+  pub owner : (u p : ℕ) → u < 8 → (unit_at t u).aca ≡ Some p → (is_attached t u ≡ true) × (p < t.count)
 
 pub sound_by : (t : Table) → Parts t → Sound t
 sound_by t s = record {
@@ -266,7 +265,7 @@ module _ (t : Table) where
       let f : order_ok t (task_at t i) ≡ true = rw v.0 at (all_at 64 i (record_fine t) h l) in
       rw v.1 at (in_order t (task_at t i) f)
 
-  owner_ok : units_ok t ≡ true → (u p : ℕ) → u < 8 → (unit_at t u).aca ≡ Owned p → (is_attached t u ≡ true) × (p < t.count)
+  owner_ok : units_ok t ≡ true → (u p : ℕ) → u < 8 → (unit_at t u).aca ≡ Some p → (is_attached t u ≡ true) × (p < t.count)
   unfolding units_ok
   owner_ok h u p l e =
       let f : (ltb p t.count && is_attached t u) ≡ true = rw e at (all_at 8 u (unit_fine t) h l) in
@@ -328,9 +327,9 @@ module _ (t : Table) (s : Parts t) where
         | inr h ↦ rw (h, s.dead_zero i l (at_dead t i h))
       ])
 
-  unit_ok : (u : ℕ) → u < 8 → (aca : Aca) → (unit_at t u).aca ≡ aca → unit_fine t u ≡ true
-  unit_ok u l Clear e = rw e
-  unit_ok u l (Owned p) e = let o = s.owner u p l e in rw (e, lt-ltb p t.count o.1, o.0)
+  unit_ok : (u : ℕ) → u < 8 → (aca : Option ℕ) → (unit_at t u).aca ≡ aca → unit_fine t u ≡ true
+  unit_ok u l None e = rw e
+  unit_ok u l (Some p) e = let o = s.owner u p l e in rw (e, lt-ltb p t.count o.1, o.0)
 
   units_ok_law : units_ok t ≡ true
   unfolding units_ok

@@ -1,5 +1,6 @@
 -- Setup gives a good table, each change keeps a table good, and total reset gives what setup gives and is the pass
 -- that ends every task. Assumes nothing.
+use Rattle.std.specs.Prelude.{Option, Some, None}
 use Prim.Native.Nat.{ℕ, zero, suc, ◌+◌, ◌-◌, ◌^◌, ◌≤◌, ◌<◌}
 use mathlib.Core.Path.{◌≡◌, refl, sym, ap, ◌∙◌}
 use mathlib.Core.Bool.{true, false, cond, not, ◌&&◌, and-false}
@@ -33,8 +34,6 @@ use Rattle.table.specs.Setup.{seen_before, bad_list, fresh_path, fresh_paths, pa
 use Rattle.sound.specs.Sound.{Sound}
 use Rattle.table.specs.View.{at}
 use Rattle.sound.specs.Promises.{Good, FreshIsGood, MayCome, AcceptKeeps, EndKeeps, SameTask, AlterKeeps, StartedKeeps, RestartedKeeps, FinishedKeeps, ClaimKeeps, ClearKeeps, MarkKeeps, AttentionGoneKeeps, ResetAttentionKeeps, ClearedAttentionKeeps, ResetOfKeeps, ResetIsSetup, ResetIsEnding}
-use Rattle.table.specs.declared.Aca.{Aca}
-use Rattle.table.specs.declared.Aca.TheVariants.{Clear, Owned}
 use Rattle.table.specs.declared.Path as path
 use Rattle.table.specs.declared.Unit as unit
 use Rattle.table.specs.declared.Table.{Table}
@@ -51,9 +50,9 @@ get_d_same (suc n) (suc i) d = get_d_same n i d
 
 -- what unit u of t may have: an ACA only where it is attached, with a listed owner, and the owner's where it has an
 -- ACA task
-pub record MayHave (t : Table) (u : ℕ) (aca : Aca) : Type 0 where
-  pub owner : (p : ℕ) → u < 8 → aca ≡ Owned p → (is_attached t u ≡ true) × (p < t.count)
-  pub owned : (i : ℕ) (a : Task) → i < 64 → at t i ≡ some a → is_aca a.kind ≡ true → a.unit ≡ u → aca ≡ Owned a.path
+pub record MayHave (t : Table) (u : ℕ) (aca : Option ℕ) : Type 0 where
+  pub owner : (p : ℕ) → u < 8 → aca ≡ Some p → (is_attached t u ≡ true) × (p < t.count)
+  pub owned : (i : ℕ) (a : Task) → i < 64 → at t i ≡ some a → is_aca a.kind ≡ true → a.unit ≡ u → aca ≡ Some a.path
 
 pub may_stay : (t : Table) → Good t → (u : ℕ) → MayHave t u (unit_at t u).aca
 may_stay t g u = record {
@@ -144,18 +143,18 @@ set_keep t u a m g =
     ]) g)
     (λ _. g)
 
-not_owned : {p : ℕ} → Clear ≡ Owned p → ⊥
+not_owned : {p : ℕ} → None ≡ Some p → ⊥
 not_owned e = let z : ◌≡◌ {A = ℕ} 0 1 = cc in omega arith
 
-may_go : (t : Table) (u : ℕ) → any_live t (aca_on u) ≡ false → MayHave t u Clear
+may_go : (t : Table) (u : ℕ) → any_live t (aca_on u) ≡ false → MayHave t u None
 may_go t u e = record {
   owner = λ p _ f. absurd (not_owned f);
   owned = λ i a b f c q. absurd (none_any t (aca_on u) e b f (picks_aca_on a u ∙ rw (eq-eqb a.unit u q) c));
 }
 
-may_own : (t : Table) (u path : ℕ) → is_attached t u ≡ true → path < t.count → (o : Aca) → MayHave t u o → MayHave t u (claimed_unit path (record { aca = o })).aca
-may_own t u path h l (Owned p) m = m
-may_own t u path h l Clear m = record {
+may_own : (t : Table) (u path : ℕ) → is_attached t u ≡ true → path < t.count → (o : Option ℕ) → MayHave t u o → MayHave t u (claimed_unit path (record { aca = o })).aca
+may_own t u path h l (Some p) m = m
+may_own t u path h l None m = record {
   owner = λ p _ e. let q : path ≡ p = cc in (h, rw q at l);
   owned = λ i a b e f q. absurd (not_owned (m.owned i a b e f q));
 }
@@ -448,7 +447,7 @@ module _ (ids : List ℕ) where
       no : (i : ℕ) {a : Task} → at (fresh_table ids attached next) i ≡ some a → ⊥
       no i e = not_both (at_fresh ids attached next i) e
 
-      clear : (u : ℕ) {p : ℕ} → (get_or (replicate 8 no_unit) u no_unit).aca ≡ Owned p → ⊥
+      clear : (u : ℕ) {p : ℕ} → (get_or (replicate 8 no_unit) u no_unit).aca ≡ Some p → ⊥
       clear u e = not_owned (rw (get_d_same 8 u no_unit) at e)
 
 pub setup_is_good : FreshIsGood

@@ -15,7 +15,6 @@ use Rattle.table.specs.Setup.{bad_list, setup_table}
 use Rattle.table.specs.View.{Shaped}
 use Rattle.sound.specs.Sound.{Sound, alike, sound_of}
 use Rattle.sound.specs.Seen.{may_clash, seen_below}
-use Rattle.table.specs.declared.Aca.TheVariants.{Owned}
 use Rattle.table.specs.declared.Table.{Table}
 
 -- ---- the check answers true exactly for sound tables
@@ -62,7 +61,7 @@ pub record MayCome (t : Table) (path tag unit : ℕ) (kind : Kind) : Type 0 wher
   pub listed : path < t.count
   pub attached : is_attached t unit ≡ true
   pub free : any_live t (named path tag) ≡ false
-  pub owner : is_aca kind ≡ true → (unit_at t unit).aca ≡ Owned path
+  pub owner : is_aca kind ≡ true → (unit_at t unit).aca ≡ Some path
   pub alone : is_aca kind ≡ true → any_live t (aca_on unit) ≡ false
 
 abbrev pub AcceptKeeps : Type 0

@@ -1,6 +1,6 @@
 -- When a table is sound: page 01's clauses as a record with a named field for each, and as the test that the check
 -- makes.
-use Rattle.std.specs.Prelude.{ℕ, ◌<◌, ◌≤◌, ◌≡◌, Bool, true, cond, not, ◌||◌, ◌&&◌, eqb, ltb, leb}
+use Rattle.std.specs.Prelude.{ℕ, ◌<◌, ◌≤◌, ◌≡◌, Bool, true, cond, not, ◌||◌, ◌&&◌, eqb, ltb, leb, Option, Some, None}
 use Rattle.std.proofs.Math.Option.{none, some}
 use Rattle.task.specs.Index.{all_below, some_below}
 use Rattle.task.specs.Tasks.{no_task, is_aca, is_waiting, is_running, is_end}
@@ -8,8 +8,6 @@ use Rattle.task.specs.Map.{is_live}
 use Rattle.task.specs.declared.Task.{Task}
 use Rattle.table.specs.Tables.{no_path, path_at, unit_at, task_at, bit_of, is_attached, is_nothing, owned_by, aca_at, path_of}
 use Rattle.table.specs.View.{at}
-use Rattle.table.specs.declared.Aca.{Aca}
-use Rattle.table.specs.declared.Aca.TheVariants.{Clear, Owned}
 use Rattle.table.specs.declared.Path as path
 use Rattle.table.specs.declared.Unit as unit
 use Rattle.table.specs.declared.Table.{Table}
@@ -36,10 +34,10 @@ pub record Sound (t : Table) : Type 0 where
   pub one_running : (i j : ℕ) (a b : Task) → i < 64 → j < 64 → at t i ≡ some a → at t j ≡ some b
       → is_running a.phase ≡ true → is_running b.phase ≡ true → a.unit ≡ b.unit → i ≡ j
   -- ACA only on attached units, with a listed owner
-  pub aca_attached : (u p : ℕ) → u < 8 → (unit_at t u).aca ≡ Owned p → is_attached t u ≡ true
-  pub aca_listed : (u p : ℕ) → u < 8 → (unit_at t u).aca ≡ Owned p → p < t.count
+  pub aca_attached : (u p : ℕ) → u < 8 → (unit_at t u).aca ≡ Some p → is_attached t u ≡ true
+  pub aca_listed : (u p : ℕ) → u < 8 → (unit_at t u).aca ≡ Some p → p < t.count
   -- an ACA task only on a unit with ACA, only from its owner, one at most
-  pub aca_owned : (i : ℕ) (a : Task) → i < 64 → at t i ≡ some a → is_aca a.kind ≡ true → (unit_at t a.unit).aca ≡ Owned a.path
+  pub aca_owned : (i : ℕ) (a : Task) → i < 64 → at t i ≡ some a → is_aca a.kind ≡ true → (unit_at t a.unit).aca ≡ Some a.path
   pub one_aca : (i j : ℕ) (a b : Task) → i < 64 → j < 64 → at t i ≡ some a → at t j ≡ some b
       → is_aca a.kind ≡ true → is_aca b.kind ≡ true → a.unit ≡ b.unit → i ≡ j
 
@@ -54,21 +52,21 @@ is_no_task a =
     && (eqb a.path 0 && (eqb a.unit 0 && (is_aca a.kind && (is_waiting a.phase && is_end a.sequel))))))
 
 -- an ACA task only under an ACA of its path
-abbrev pub may_stand : Aca → Task → Bool
+abbrev pub may_stand : Option ℕ → Task → Bool
 may_stand aca a = cond (is_aca a.kind) (owned_by aca a.path) true
 
-abbrev pub live_ok : ℕ → ℕ → ℕ → Aca → Task → Bool
+abbrev pub live_ok : ℕ → ℕ → ℕ → Option ℕ → Task → Bool
 live_ok next count attached aca a = ltb a.path count && (bit_of attached a.unit && (ltb a.arrival next && may_stand aca a))
 
-abbrev pub record_ok : ℕ → ℕ → ℕ → ℕ → Aca → ℕ → Task → Bool
+abbrev pub record_ok : ℕ → ℕ → ℕ → ℕ → Option ℕ → ℕ → Task → Bool
 record_ok live next count attached aca i a = cond (is_live live i) (live_ok next count attached aca a) (is_no_task a)
 
 abbrev pub unit_ok : ℕ → ℕ → ℕ → unit.Unit → Bool
 unit_ok count attached u a = by_owner a.aca
   where
-    by_owner : Aca → Bool
-    by_owner Clear = true
-    by_owner (Owned p) = ltb p count && bit_of attached u
+    by_owner : Option ℕ → Bool
+    by_owner None = true
+    by_owner (Some p) = ltb p count && bit_of attached u
 
 unfoldable pub count_ok : Table → Bool
 count_ok t = not (eqb t.count 0) && leb t.count 8

@@ -3,7 +3,7 @@ ghost use Rattle.std.specs.Prelude.{◌≡◌};
 ghost use Rattle.sound.specs.Sound;
 ghost use Rattle.sound.specs.Sound.{is_no_path, is_no_task, may_stand, live_ok, record_ok, unit_ok, cannot_share_unit, clash_of};
 
-use table::{Aca, Path, Unit};
+use table::{Path, Unit};
 use task::Task;
 
 // A path all zero.
@@ -52,7 +52,7 @@ pub fn is_no_task(a: Task) -> bool
 }
 
 // An ACA task only on a unit with ACA, only from its owner.
-fn may_stand(aca: Aca, a: Task) -> bool
+fn may_stand(aca: Option<u8>, a: Task) -> bool
     ensures { result ≡ may_stand aca a }
 {
     let kind = a.kind;
@@ -64,19 +64,13 @@ fn may_stand(aca: Aca, a: Task) -> bool
 
 // A live record names a listed path and an attached unit, its arrival number lies below the next, and it may stand
 // under its unit's ACA.
-fn live_ok(next: u64, count: u8, attached: u8, aca: Aca, a: Task) -> bool
+fn live_ok(next: u64, count: u8, attached: u8, aca: Option<u8>, a: Task) -> bool
     ensures { result ≡ live_ok next count attached aca a }
 {
-    if a.path >= count {
-        return false;
-    }
-    if !table::paths::bit_of(attached, a.unit as usize) {
-        return false;
-    }
-    if a.arrival >= next {
-        return false;
-    }
-    may_stand(aca, a)
+    a.path < count
+        && table::paths::bit_of(attached, a.unit as usize)
+        && a.arrival < next
+        && may_stand(aca, a)
 }
 
 // Record i: a live task in order, or a dead record all zero.
@@ -85,7 +79,7 @@ pub(crate) fn record_ok(
     next: u64,
     count: u8,
     attached: u8,
-    aca: Aca,
+    aca: Option<u8>,
     i: usize,
     a: Task,
 ) -> bool
@@ -101,15 +95,9 @@ pub(crate) fn record_ok(
 pub(crate) fn unit_ok(count: u8, attached: u8, u: usize, a: Unit) -> bool
     ensures { result ≡ unit_ok count attached u a }
 {
-    let aca = a.aca;
-    match aca {
-        Aca::Clear => true,
-        Aca::Owned(p) => {
-            if p >= count {
-                return false;
-            }
-            table::paths::bit_of(attached, u)
-        }
+    match a.aca {
+        None => true,
+        Some(p) => p < count && table::paths::bit_of(attached, u),
     }
 }
 

@@ -28,17 +28,12 @@ fn count_ok(t: Table) -> bool
 fn paths_distinct(t: Table) -> bool
     ensures { result ≡ paths_distinct t }
 {
-    let count = t.count as usize;
-    let paths = t.paths;
-    let mut p: usize = 0;
-    while p < PATHS {
-        let a = paths[p];
-        if p < count {
-            if table::paths::place_of(paths, t.count, a.id) != p {
+    for (p, a) in t.paths.iter().enumerate() {
+        if p < t.count as usize {
+            if table::paths::place_of(t.paths, t.count, a.id) != p {
                 return false;
             }
         }
-        p += 1;
     }
     true
 }
@@ -47,16 +42,12 @@ fn paths_distinct(t: Table) -> bool
 fn unused_zero(t: Table) -> bool
     ensures { result ≡ unused_zero t }
 {
-    let count = t.count as usize;
-    let mut p: usize = 0;
-    while p < PATHS {
-        let a = t.paths[p];
-        if p >= count {
-            if !is_no_path(a) {
+    for (p, a) in t.paths.iter().enumerate() {
+        if p >= t.count as usize {
+            if !is_no_path(*a) {
                 return false;
             }
         }
-        p += 1;
     }
     true
 }
@@ -65,15 +56,11 @@ fn unused_zero(t: Table) -> bool
 fn records_ok(t: Table) -> bool
     ensures { result ≡ records_ok t }
 {
-    let units = t.units;
-    let mut i: usize = 0;
-    while i < RECORDS {
-        let a = t.tasks[i];
-        let aca = table::units::aca_at(units, a.unit);
-        if !record_ok(t.live, t.next, t.count, t.attached, aca, i, a) {
+    for (i, a) in t.tasks.iter().enumerate() {
+        let aca = table::units::aca_at(t.units, a.unit);
+        if !record_ok(t.live, t.next, t.count, t.attached, aca, i, *a) {
             return false;
         }
-        i += 1;
     }
     true
 }
@@ -82,13 +69,10 @@ fn records_ok(t: Table) -> bool
 fn units_ok(t: Table) -> bool
     ensures { result ≡ units_ok t }
 {
-    let mut u: usize = 0;
-    while u < UNITS {
-        let a = t.units[u];
-        if !unit_ok(t.count, t.attached, u, a) {
+    for (u, a) in t.units.iter().enumerate() {
+        if !unit_ok(t.count, t.attached, u, *a) {
             return false;
         }
-        u += 1;
     }
     true
 }
@@ -100,24 +84,20 @@ fn clashes(t: Table) -> bool
 {
     let mut seen = [0u64; WORDS];
     let mut found = false;
-    let mut i: usize = 0;
-    'walk: while i < RECORDS {
+    'walk: for i in 0..RECORDS {
         let a = t.tasks[i];
         if task::map::is_live(t.live, i) {
             if crate::seen::may_clash(&seen, a) {
-                let mut j: usize = 0;
-                while j < i {
+                for j in 0..i {
                     let b = t.tasks[j];
                     if clash(t.live, i, a, j, b) {
                         found = true;
                         break 'walk;
                     }
-                    j += 1;
                 }
             }
             crate::seen::set_bits(&mut seen, a);
         }
-        i += 1;
     }
     found
 }

@@ -1,8 +1,9 @@
 -- The answers of paths, units and changes: a lemma for each way out, and for each turn of a loop. Assumes nothing.
 --     bounded                  for `search`, a choice by a bound
---     path_loop, end_loop      for `search (rules, ..)`, the turns of the loops over the paths and over the records
+--     end_loop      for `search (rules, ..)`, the turns of the loop over the records;        path_through, path_kept      those of the loops over the paths
 --     others_loop      for `search`, the start, the bound and the end of the loop over the others; its turns are others_add and others_skip
 --     aca_ways, room_ways, alter_ways      for `search`, the ways out of the functions on ACA, on room and acceptance, and on a record that changes
+use Rattle.std.specs.Prelude.{Option, Some, None}
 use Prim.Native.Nat.{ℕ, ◌+◌, ◌^◌, ◌≤◌, ◌<◌}
 use mathlib.Core.Path.{◌≡◌, refl, sym, ap, ap₂, ◌∙◌}
 use mathlib.Core.Bool.{Bool, true, false, cond, not, ◌&&◌}
@@ -10,8 +11,8 @@ use mathlib.Core.List.{List}
 use mathlib.Core.Logic.{⊎_elim}
 use native.Mathlib.Nat.{le_refl, le_antisymm, le_of_eq, lt_trans}
 use native.Mathlib.Omega.{arith}
-use lib.Dec.{eqb, leb}
-use lib.ListN.{length, get_or, set, replicate}
+use lib.Dec.{leb}
+use lib.ListN.{length, get_or, set, replicate, length-set}
 use lib.Seq.{set-get_or}
 use borrow.Author.Tests.{lt-ltb, le-ltb, le-leb, lt-leb, not-true, not-false}
 use Rattle.task.specs.Index.{first, map_of, map_at}
@@ -22,16 +23,14 @@ use Rattle.wire.specs.declared.codes.Kind.{Kind}
 use Rattle.task.specs.declared.Sequel.{Sequel}
 use Rattle.task.specs.declared.Task.{Task}
 use Rattle.task.specs.declared.select.Selection.{Selection}
+use Rattle.task.proofs.Ways.{never, cond_below, cond_past, answered_true, answered_false}
 use Rattle.std.specs.Prelude.{Option, Some, None}
-use Rattle.task.proofs.Ways.{cond_below, cond_past, answered_true, answered_false}
 use Rattle.task.proofs.Places.{lt_or_le, first_before, first_none, map_of_ext}
-use Rattle.task.proofs.Lists.{map_below, map_below_ahead, map_below_zero, map_below_step, map_below_put, map_below_skip, map_below_all}
+use Rattle.task.proofs.Lists.{map_below, map_below_ahead, map_below_zero, map_below_step, map_below_put, map_below_skip, map_below_all, length_map_below}
 use Rattle.task.proofs.Bits.{map_of_lt}
 use Rattle.task.proofs.Loops.{map_of_start, map_of_add, map_of_skip}
 use Rattle.task.proofs.Clearing.{clear_below, clear_zero, clear_step, clear_skip, clear_ahead, clear_all}
-use Rattle.table.specs.Tables.{no_path, no_unit, task_at, has_id, place_of, owned_by, aca_at, picks_at, last_arrival, has_room, with_tasks, new_task, accepted, ended_by, altered_at, reset_attention_in, is_other_on, others_on, claimed_in, aca_cleared_in, reset_of}
-use Rattle.table.specs.declared.Aca.{Aca}
-use Rattle.table.specs.declared.Aca.TheVariants.{Clear, Owned}
+use Rattle.table.specs.Tables.{no_path, no_unit, task_at, has_id, place_of, has_aca, aca_at, picks_at, last_arrival, has_room, with_tasks, new_task, accepted, ended_by, altered_at, reset_attention_in, is_other_on, others_on, claimed_unit, claimed_in, aca_cleared_in, reset_of}
 use Rattle.table.specs.declared.Path as path
 use Rattle.table.specs.declared.Unit as unit
 use Rattle.table.specs.declared.Table.{Table}
@@ -47,13 +46,10 @@ place_fits paths count id e =
     let p : ℕ → Bool = λ q. has_id count id q (get_or paths q no_path) in
     rw e (⊎_elim (λ l. le_of_eq (first_none 8 p (λ k m. first_before 8 k p (lt_trans m l)))) (λ l. l) (lt_or_le 8 (first 8 p)))
 
--- ---- an ACA past the end, and one with an owner
+-- ---- an ACA past the end
 
-pub no_aca : (units : List unit.Unit) (u : ℕ) → length units ≡ 8 → 8 ≤ u → Clear ≡ aca_at units u
+pub no_aca : (units : List unit.Unit) (u : ℕ) → length units ≡ 8 → 8 ≤ u → None ≡ aca_at units u
 no_aca units u e h = ap (λ (a : unit.Unit). a.aca) (past_end units no_unit 8 e h refl)
-
-pub owner_asked : {aca : Aca} {p : ℕ} (path : ℕ) → aca ≡ Owned p → eqb p path ≡ owned_by aca path
-owner_asked path e = rw e
 
 -- ---- a loop over the paths: those that q picks go through g
 
@@ -68,31 +64,48 @@ module _ (l : List path.Path) (q : ℕ → Bool) (g : path.Path → path.Path) w
   unfolding paths_below
   paths_start = sym (map_below_zero through l no_path)
 
-  module _ {m : List path.Path} (k : ℕ) (e : m ≡ paths_below k) where
-    pub path_through : {v : List path.Path} {a : path.Path} → v ≡ set m k a → a ≡ g (get_or m k no_path) → q k ≡ true → k < 8 → length l ≡ 8 → v ≡ paths_below (k + 1)
+  module _ {m : List path.Path} (k : ℕ) (e : m ≡ paths_below k) (n : length m ≡ 8) where
+    -- the list stays as long
+    as_long : length m ≡ length l
     unfolding paths_below
-    path_through d c b h n = d ∙ rw e (map_below_put through l no_path k (omega arith) (rw b (c ∙ rw e)))
+    as_long = ap length e ∙ length_map_below k through l
 
-    pub path_kept : {v : List path.Path} → v ≡ m → q k ≡ false → v ≡ paths_below (k + 1)
+    -- a turn's list, which has x at k, is that of k + 1
+    next : {v : List path.Path} {x : path.Path} → v ≡ set m k x → x ≡ through k (get_or m k no_path) → k < 8 → (v ≡ paths_below (k + 1)) × (length v ≡ 8)
     unfolding paths_below
-    path_kept d b = d ∙ e ∙ map_below_skip through l no_path k (rw b)
+    next {v} {x} d c h =
+        let p : v ≡ paths_below (k + 1) = d ∙ rw e (map_below_put through l no_path k (omega (arith, as_long)) (c ∙ rw e)) in
+        (p, ap length d ∙ length-set m k x ∙ n)
 
-    pub paths_end : k ≤ 8 → 8 ≤ k → length l ≡ 8 → m ≡ map_at through 0 l
+    pub path_through : {v : List path.Path} {a : path.Path} → v ≡ set m k a → a ≡ g (get_or m k no_path) → q k ≡ true → k < 8
+        → (v ≡ paths_below (k + 1)) × (length v ≡ 8)
+    path_through d c b h = next d (c ∙ rw b) h
+
+    pub path_kept : {v : List path.Path} → v ≡ set m k (get_or m k no_path) → q k ≡ false → k < 8 → (v ≡ paths_below (k + 1)) × (length v ≡ 8)
+    path_kept d b h = next d (rw b) h
+
+    pub paths_end : k ≤ 8 → 8 ≤ k → m ≡ map_at through 0 l
     unfolding paths_below
-    paths_end h j n = e ∙ map_below_all through l no_path k (n ∙ le_antisymm j h)
-
-pub ruleset path_loop = (paths_start, path_through, path_kept, lt-ltb, le-ltb, answered_true, answered_false, unmapped)
+    paths_end h j = e ∙ map_below_all through l no_path k (omega (arith, as_long))
 
 -- ---- a unit's ACA
 
-module _ (units : List unit.Unit) (unit path : ℕ) (h : unit < 8) where
-  pub claim_kept : {p : ℕ} → (get_or units unit no_unit).aca ≡ Owned p → units ≡ claimed_in units unit path
-  unfolding claimed_in
-  claim_kept e = rw (lt-ltb unit 8 h, e) (sym (rw (← e) (set-get_or units unit no_unit)))
+owner_stays : (path : ℕ) (o : Option ℕ) → has_aca o ≡ true → claimed_unit path (record { aca = o }) ≡ record { aca = o }
+owner_stays path None h = absurd (never h refl)
+owner_stays path (Some p) h = refl
 
-  pub claim_made : (get_or units unit no_unit).aca ≡ Clear → set units unit (record { aca = Owned path }) ≡ claimed_in units unit path
+owner_comes : (path : ℕ) (o : Option ℕ) → has_aca o ≡ false → claimed_unit path (record { aca = o }) ≡ record { aca = Some path }
+owner_comes path None h = refl
+owner_comes path (Some p) h = absurd (never refl h)
+
+module _ (units : List unit.Unit) (unit path : ℕ) {b : Bool} (h : unit < 8) (e : b ≡ has_aca (get_or units unit no_unit).aca) where
+  pub claim_kept : b ≡ true → units ≡ claimed_in units unit path
   unfolding claimed_in
-  claim_made e = rw (lt-ltb unit 8 h, e)
+  claim_kept f = rw (lt-ltb unit 8 h, owner_stays path (get_or units unit no_unit).aca (answered_true e f)) (sym (set-get_or units unit no_unit))
+
+  pub claim_made : b ≡ false → set units unit (record { aca = Some path }) ≡ claimed_in units unit path
+  unfolding claimed_in
+  claim_made f = rw (lt-ltb unit 8 h, owner_comes path (get_or units unit no_unit).aca (answered_false e f))
 
 module _ (units : List unit.Unit) {place : Option ℕ} where
   pub clear_all_units : {a : unit.Unit} → place ≡ None → a ≡ no_unit → replicate 8 a ≡ aca_cleared_in units place

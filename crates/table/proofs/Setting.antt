@@ -11,14 +11,16 @@ use native.Mathlib.Omega.{arith}
 use lib.Dec.{eqb}
 use lib.ListN.{length, get_or, set, take, replicate}
 use lib.Seq.{take-suc, take-length, length-take-le}
-use borrow.Author.Tests.{lt-ltb, le-ltb, eq-eqb, ne_eqb}
-use Rattle.task.specs.Index.{some_below}
+use borrow.Author.Tests.{le-ltb, lt-ltb, eq-eqb, ne_eqb, eqb-true}
 use Rattle.task.proofs.Ways.{never}
-use Rattle.task.proofs.Places.{lt_or_le}
+use Rattle.std.specs.List.{list_any}
+use Rattle.task.specs.Index.{some_below}
+use Rattle.task.proofs.Places.{lt_or_le, some_ext}
 use Rattle.table.specs.Tables.{no_path, zero_table}
 use Rattle.table.specs.Setup.{seen_before, bad_list, fresh_path, fresh_paths, paths_of, fresh_table, setup_table}
 use Rattle.table.specs.declared.Path as path
 use Rattle.table.specs.declared.Table.{Table}
+use Rattle.table.proofs.Lists.{any_below}
 
 -- ---- the path list
 
@@ -53,10 +55,15 @@ pub ruleset list_loop = (list_start, list_turn, list_end)
 
 -- ---- a bad list
 
+eqb-swap : (m n : ℕ) → eqb m n ≡ eqb n m
+eqb-swap m n = grind (arith, eqb-true, eq-eqb, ne_eqb)
+
 module _ (ids : List ℕ) where
-  pub no_ids : length ids ≡ 0 → true ≡ bad_list ids
-  unfolding bad_list
-  no_ids h = rw (eq-eqb (length ids) 0 h)
+  -- an id is among those before it
+  pub seen_law : {b : Bool} (i : ℕ) → b ≡ list_any (λ y. eqb y (get_or ids i 0)) (take i ids) → i < length ids → b ≡ seen_before ids i
+  seen_law i e h =
+      e ∙ any_below (λ y. eqb y (get_or ids i 0)) ids 0 i (omega arith)
+      ∙ some_ext i _ _ (λ j _. eqb-swap (get_or ids j 0) (get_or ids i 0))
 
   pub many_ids : 8 < length ids → true ≡ bad_list ids
   unfolding bad_list
@@ -65,8 +72,6 @@ module _ (ids : List ℕ) where
   pub few_ids : {b : Bool} → (length ids ≡ 0 → ⊥) → length ids ≤ 8 → b ≡ some_below (length ids) (seen_before ids) → b ≡ bad_list ids
   unfolding bad_list
   few_ids h l e = rw (ne_eqb (length ids) 0 h, le-ltb 8 (length ids) l) e
-
-pub ruleset list_ways = (no_ids, many_ids, few_ids)
 
 -- ---- the table that setup gives
 

@@ -1,31 +1,33 @@
 -- One step of the records, what a finish makes of them, who has a task and where one runs. Assumes nothing.
 --     altered_ways, step_ways      for `search`, the ways out of the functions so named, by the variant
 --     finish_is_step, finish_of_none, finishes      a finish is a change of the units and a step: of a record, of none, and as `Table::finish` makes it
---     held_loop      for `search`, start and end of the loop that gathers who has a task;        found_more, found_same      its turns, with those of `Gathering`
+--     held_loop      for `search`, the loop that gathers who has a task
 --     running_all      the end of the loop that gathers where one runs;        other_as      the paths that have one on a unit
 use Prim.Native.Nat.{ℕ, ◌+◌, ◌%◌, ◌≤◌, ◌<◌}
-use mathlib.Core.Path.{◌≡◌, refl, sym, ◌∙◌}
-use mathlib.Core.Bool.{Bool, true, false, not, ◌&&◌, or-true, or-false, and-true, and-false}
+use mathlib.Core.Path.{◌≡◌, refl, sym, ap, ap₂, ◌∙◌}
+use mathlib.Core.Bool.{Bool, true, false, cond, not, ◌&&◌, or-false, and-true, and-false}
 use mathlib.Core.List.{List}
 use mathlib.Core.Logic.{inl, inr}
 use native.Mathlib.Nat.{le_antisymm}
 use native.Mathlib.Numerals.{add-one}
 use native.Mathlib.Omega.{arith}
-use lib.Dec.{eqb, ltb}
+use lib.Dec.{eqb, ltb, lit<}
 use lib.ListN.{length}
-use Rattle.task.specs.Index.{some_below}
-use Rattle.task.specs.Map.{is_live}
+use Rattle.std.specs.Prelude.{Option, Some, None}
+use Rattle.std.specs.Option.{unwrap_or, is_some}
+use Rattle.task.specs.Index.{some_below, map_of}
+use Rattle.task.specs.Map.{is_live, with_bit}
 use Rattle.task.specs.Tasks.{has_confirm, runs, restarts, awaits}
 use Rattle.task.specs.Selections.{picks, on_unit, from_on}
 use Rattle.wire.specs.declared.codes.Kind.{Kind}
 use Rattle.task.specs.declared.Sequel.{Sequel}
 use Rattle.task.specs.declared.Task.{Task}
 use Rattle.task.specs.declared.select.Selection.{Selection}
-use Rattle.task.proofs.Ways.{either_way}
-use Rattle.task.proofs.Places.{some_ext}
-use Rattle.task.proofs.Bits.{live_map_of}
-use Rattle.task.proofs.Gathering.{gathered, gather_start, low_byte}
-use Rattle.table.specs.Tables.{task_at, picks_at, any_live, is_other_on, with_units, accepted, ended_by, altered_at, runs_at, finished}
+use Rattle.task.proofs.Ways.{either_way, answered_true, answered_false}
+use Rattle.task.proofs.Places.{some_ext, some_none, some_at, none_at}
+use Rattle.task.proofs.Bits.{dead_zero, is_map_of, live_map_of}
+use Rattle.task.proofs.Gathering.{keyed, gathered, gather_more, gather_same, low_byte}
+use Rattle.table.specs.Tables.{task_at, picks_at, any_live, pick_of, is_other_on, with_units, accepted, ended_by, altered_at, runs_at, finished}
 use Rattle.table.specs.Steps.{altered_by, stepped, finish_step, finish_units, holds_one, holders_of, runs_picked, runs_one, running_among}
 use Rattle.table.specs.declared.Unit as unit
 use Rattle.table.specs.declared.Table.{Table}
@@ -33,7 +35,6 @@ use Rattle.table.specs.declared.steps.Alteration.{Alteration}
 use Rattle.table.specs.declared.steps.Alteration.TheVariants.{Run, Restart, Await}
 use Rattle.table.specs.declared.steps.Step.{Step}
 use Rattle.table.specs.declared.steps.Step.TheVariants.{Stay, Accept, Alter, End}
-use Rattle.table.specs.declared.changes.Holders.{Holders}
 use Rattle.table.proofs.Views.{any_found}
 
 -- ---- a step, by its variant
@@ -97,34 +98,68 @@ path_in t i = (task_at t i).path
 abbrev pub unit_in : Table → ℕ → ℕ
 unit_in t i = (task_at t i).unit
 
+some_same : (k : ℕ) (p : ℕ → Bool) → p k ≡ false → some_below k p ≡ some_below (k + 1) p
+unfolding some_below
+some_same k p e = rw (add-one, e) (sym (or-false (some_below k p)))
+
 module _ (t : Table) (s : Selection) where
-  -- some live task below k is picked
-  unfoldable pub found_below : ℕ → Bool
-  found_below k = some_below k (picks_at t s)
+  -- the map of those who have one below k
+  abbrev holding : ℕ → ℕ
+  holding k = gathered (picks_at t s) (path_in t) k
 
-  pub found_start : false ≡ found_below 0
-  unfolding found_below some_below
-  found_start = refl
+  -- and none where no live task below k is picked
+  unfoldable pub held_below : ℕ → Option ℕ
+  held_below k = cond (some_below k (picks_at t s)) (Some (holding k)) None
 
-  module _ {f b : Bool} (k : ℕ) (e : f ≡ found_below k) (h : b ≡ picks_at t s k) where
-    pub found_more : {v : Bool} → b ≡ true → v ≡ true → v ≡ found_below (k + 1)
-    unfolding found_below some_below
-    found_more y d = rw (add-one, ← h, y) (d ∙ sym (or-true (some_below k (picks_at t s))))
+  pub held_start : None ≡ held_below 0
+  unfolding held_below some_below
+  held_start = refl
 
-    pub found_same : {v : Bool} → b ≡ false → v ≡ f → v ≡ found_below (k + 1)
-    unfolding found_below some_below
-    found_same n d = rw (add-one, ← h, n) (d ∙ e ∙ sym (or-false (some_below k (picks_at t s))))
+  -- where none is picked the map is empty
+  none_holds : (k : ℕ) → some_below k (picks_at t s) ≡ false → 0 ≡ holding k
+  unfolding gathered
+  none_holds k e =
+      is_map_of 64 0 (λ n. some_below k (keyed (picks_at t s) (path_in t) n)) (lit< tt)
+      (λ n _. dead_zero n ∙ sym (some_none k _ (λ i l. rw (none_at k i (picks_at t s) e l))))
 
-  pub held_all : {m k : ℕ} {f : Bool} → k ≤ 64 → 64 ≤ k → m ≡ gathered (picks_at t s) (path_in t) k → f ≡ found_below k → length t.tasks ≡ 64 → record { paths = m; found = f } ≡ holders_of t s
-  unfolding gathered found_below holders_of any_live
-  held_all h l e g n = rw (e, g, le_antisymm h l, any_found t s n)
+  held_map : (k : ℕ) → unwrap_or (held_below k) 0 ≡ holding k
+  unfolding held_below
+  held_map k = elim (either_way (some_below k (picks_at t s))) [ inl e ↦ rw e | inr e ↦ rw e (none_holds k e) ]
+
+  module _ {h : Option ℕ} {b : Bool} (k : ℕ) (e : h ≡ held_below k) (f : b ≡ picks_at t s k) where
+    pub held_more : {m n : ℕ} {v : Option ℕ} → b ≡ true → v ≡ Some m → m ≡ with_bit n (path_in t k) → n ≡ unwrap_or h 0 → v ≡ held_below (k + 1)
+    unfolding held_below
+    held_more {m} {n} y d c g =
+        let w : n ≡ holding k = g ∙ rw e (held_map k) in
+        d ∙ rw (some_at (k + 1) k (picks_at t s) (omega arith) (answered_true f y))
+        (ap Some (gather_more (picks_at t s) (path_in t) k w f y c))
+
+    pub held_same : {v : Option ℕ} → b ≡ false → v ≡ h → v ≡ held_below (k + 1)
+    unfolding held_below
+    held_same y d =
+        d ∙ e ∙ ap₂ (λ (c : Bool) (m : ℕ). cond c (Some m) None) (some_same k (picks_at t s) (answered_false f y))
+        (gather_same (picks_at t s) (path_in t) k refl f y refl)
+
+  pub held_all : {h : Option ℕ} {k : ℕ} → k ≤ 64 → 64 ≤ k → h ≡ held_below k → length t.tasks ≡ 64 → h ≡ holders_of t s
+  unfolding held_below gathered holders_of any_live
+  held_all h l e n = rw (e, le_antisymm h l, any_found t s n)
+
+  -- the map of the holders, which is empty where they are none
+  pub holders_map : length t.tasks ≡ 64 → unwrap_or (holders_of t s) 0 ≡ map_of 64 (holds_one t s)
+  unfolding holders_of gathered any_live
+  holders_map n =
+      elim (either_way (pick_of t s).found) [ inl e ↦ rw e | inr e ↦ rw e (none_holds 64 (sym (any_found t s n) ∙ e)) ]
+
+  pub holders_found : is_some (holders_of t s) ≡ (pick_of t s).found
+  unfolding holders_of
+  holders_found = elim (either_way (pick_of t s).found) [ inl e ↦ rw e | inr e ↦ rw e ]
 
   -- and where one of them runs
   pub running_all : {m k : ℕ} → k ≤ 64 → 64 ≤ k → m ≡ gathered (runs_picked t s) (unit_in t) k → m % 256 ≡ running_among t s
   unfolding gathered running_among
   running_all h l e = rw (e, le_antisymm h l) (low_byte (runs_one t s))
 
-pub ruleset held_loop = (gather_start, found_start, held_all)
+pub ruleset held_loop = (held_start, held_more, held_same, held_all)
 
 -- ---- the paths that have a task on a unit
 
@@ -139,9 +174,9 @@ on_from p unit a true =
 on_from p unit a false = refl
 
 module _ (t : Table) (unit sender : ℕ) where
-  pub other_as : {s : Selection} {h : Holders} {has b : Bool} (p : ℕ) → p < 8 → s ≡ on_unit unit → h ≡ holders_of t s → has ≡ is_live h.paths p
-      → b ≡ (ltb p t.count && (not (eqb p sender) && has)) → b ≡ is_other_on t unit sender p
-  unfolding holders_of any_live
-  other_as p l e h g f =
+  pub other_as : {s : Selection} {h : Option ℕ} {m : ℕ} {has b : Bool} (p : ℕ) → p < 8 → length t.tasks ≡ 64 → s ≡ on_unit unit → h ≡ holders_of t s → m ≡ unwrap_or h 0
+      → has ≡ is_live m p → b ≡ (ltb p t.count && (not (eqb p sender) && has)) → b ≡ is_other_on t unit sender p
+  unfolding any_live
+  other_as p l n e h d g f =
       let k : p < 64 = omega arith in
-      f ∙ rw (g, h, e, live_map_of 64 p (holds_one t (on_unit unit)) k, some_ext 64 _ _ (λ i _. on_from p unit (task_at t i) (is_live t.live i)))
+      f ∙ rw (g, d, h, e, holders_map t (on_unit unit) n, live_map_of 64 p (holds_one t (on_unit unit)) k, some_ext 64 _ _ (λ i _. on_from p unit (task_at t i) (is_live t.live i)))

@@ -1,6 +1,6 @@
 -- One step of the records: what a call does to them, said as one value; what a finish leaves, as a step; who has a
 -- task of a selection, and on which units one of them runs.
-use Rattle.std.specs.Prelude.{ℕ, Bool, cond, ◌&&◌, List, eqb, ltb, is_some}
+use Rattle.std.specs.Prelude.{ℕ, Bool, cond, ◌&&◌, List, eqb, ltb, is_some, Option, Some, None}
 use Rattle.task.specs.Index.{some_below, map_of}
 use Rattle.task.specs.Map.{is_live}
 use Rattle.task.specs.Tasks.{is_running, has_confirm, runs, awaits, restarts}
@@ -14,7 +14,6 @@ use Rattle.table.specs.declared.steps.Alteration.{Alteration}
 use Rattle.table.specs.declared.steps.Alteration.TheVariants.{Run, Restart, Await}
 use Rattle.table.specs.declared.steps.Step.{Step}
 use Rattle.table.specs.declared.steps.Step.TheVariants.{Stay, Accept, Alter, End}
-use Rattle.table.specs.declared.changes.Holders.{Holders}
 
 -- a task runs; it waits again, to start at an offset; it waits to be confirmed, with the bytes transferred
 abbrev pub altered_by : Alteration → Task → Task
@@ -44,14 +43,14 @@ finish_step live i a transferred = cond (runs_in live i a) (cond (has_confirm a.
 unfoldable pub finish_units : List unit.Unit → ℕ → ℕ → Task → Bool → List unit.Unit
 finish_units units live i a failed = cond (runs_in live i a) (cond failed (claimed_in units a.unit a.path) units) units
 
--- ---- who has a live task that is picked: the map of the paths, by their places below 64, and whether there is such a
--- task, which is whether the scan finds one
+-- ---- who has a live task that is picked: the map of the paths, by their places below 64, and none where there is no
+-- such task, which is where the scan finds none
 
 abbrev pub holds_one : Table → Selection → ℕ → Bool
 holds_one t s p = some_below 64 (λ i. picks_at t s i && eqb (task_at t i).path p)
 
-unfoldable pub holders_of : Table → Selection → Holders
-holders_of t s = record { paths = map_of 64 (holds_one t s); found = is_some (pick_of t s) }
+unfoldable pub holders_of : Table → Selection → Option ℕ
+holders_of t s = cond (is_some (pick_of t s)) (Some (map_of 64 (holds_one t s))) None
 
 -- ---- where a live task that is picked runs: the map of the units
 

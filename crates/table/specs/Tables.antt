@@ -12,8 +12,6 @@ use Rattle.task.specs.declared.select.Selection.{Selection}
 use Rattle.task.specs.declared.scan.Pick.{Pick}
 use Rattle.table.specs.declared.Attention.{Attention}
 use Rattle.table.specs.declared.Attention.TheVariants as attention
-use Rattle.table.specs.declared.Aca.{Aca}
-use Rattle.table.specs.declared.Aca.TheVariants.{Clear, Owned}
 use Rattle.table.specs.declared.Path as path
 use Rattle.table.specs.declared.Unit as unit
 use Rattle.table.specs.declared.Table.{Table}
@@ -24,7 +22,7 @@ abbrev pub no_path : path.Path
 no_path = record { id = 0; full = false; attention = attention.Nothing }
 
 abbrev pub no_unit : unit.Unit
-no_unit = record { aca = Clear }
+no_unit = record { aca = None }
 
 unfoldable pub zero_table : Table
 zero_table = record { live = 0; next = 0; count = 0; attached = 0; paths = replicate 8 no_path; units = replicate 8 no_unit; tasks = replicate 64 no_task }
@@ -74,16 +72,16 @@ is_cleared attention.Reset = false
 is_cleared attention.Cleared = true
 
 -- there is an ACA; it is owned by the path
-abbrev pub has_aca : Aca → Bool
-has_aca Clear = false
-has_aca (Owned p) = true
+abbrev pub has_aca : Option ℕ → Bool
+has_aca None = false
+has_aca (Some p) = true
 
-abbrev pub owned_by : Aca → ℕ → Bool
-owned_by Clear path = false
-owned_by (Owned p) path = eqb p path
+abbrev pub owned_by : Option ℕ → ℕ → Bool
+owned_by None path = false
+owned_by (Some p) path = eqb p path
 
 -- the ACA of a unit, and none past the end
-abbrev pub aca_at : List unit.Unit → ℕ → Aca
+abbrev pub aca_at : List unit.Unit → ℕ → Option ℕ
 aca_at units u = (get_or units u no_unit).aca
 
 -- record i is live and its task is picked; some live task is picked; of those that are, the one that goes next
@@ -195,9 +193,9 @@ others_on t unit sender = map_of 8 (is_other_on t unit sender)
 abbrev pub claimed_unit : ℕ → unit.Unit → unit.Unit
 claimed_unit path a = record { aca = by_owner a.aca }
   where
-    by_owner : Aca → Aca
-    by_owner Clear = Owned path
-    by_owner (Owned p) = Owned p
+    by_owner : Option ℕ → Option ℕ
+    by_owner None = Some path
+    by_owner (Some p) = Some p
 
 unfoldable pub claimed_in : List unit.Unit → ℕ → ℕ → List unit.Unit
 claimed_in units unit path = cond (ltb unit 8) (set units unit (claimed_unit path (get_or units unit no_unit))) units

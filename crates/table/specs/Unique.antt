@@ -12,7 +12,6 @@ use Rattle.table.specs.Tables.{accepted, ended_by, started, restarted, finished,
 use Rattle.table.specs.Steps.{stepped, finish_step, finish_units, holders_of, running_among}
 use Rattle.table.specs.Setup.{bad_list, setup_table}
 use Rattle.table.specs.declared.Attention.{Attention}
-use Rattle.table.specs.declared.Aca.{Aca}
 use Rattle.table.specs.declared.Path as path
 use Rattle.table.specs.declared.Unit as unit
 use Rattle.table.specs.declared.Table.{Table}
@@ -52,6 +51,6 @@ pub record AnswersAreOne : Type 0 where
   pub bad_list_is_one : (ids : List ℕ) → One (bad_list ids)
   pub zero_is_one : One zero_table
   pub new_is_one : (ids : List ℕ) (attached first : ℕ) → One (setup_table ids attached first)
-  pub has_aca_is_one : (aca : Aca) → One (has_aca aca)
-  pub owned_by_is_one : (aca : Aca) (path : ℕ) → One (owned_by aca path)
+  pub has_aca_is_one : (aca : Option ℕ) → One (has_aca aca)
+  pub owned_by_is_one : (aca : Option ℕ) (path : ℕ) → One (owned_by aca path)
   pub aca_at_is_one : (units : List unit.Unit) (unit : ℕ) → One (aca_at units unit)

@@ -12,13 +12,6 @@ use task::scan::Pick;
 use task::select::Selection;
 use task::{Kind, RECORDS, Sequel, Task};
 
-// Who has a live task that a selection picks: the map of their places in the path list, and whether there is anyone.
-#[derive(Clone, Copy)]
-pub struct Holders {
-    pub paths: u64,
-    pub found: bool,
-}
-
 impl Table {
     // Of the live tasks that the selection picks, the one that goes next. The records are lent to the scan.
     pub fn pick(self, s: Selection) -> Option<Pick>
@@ -117,22 +110,18 @@ impl Table {
         self
     }
 
-    // Who has a live task that the selection picks: one pass over the records.
-    pub fn holders(self, s: Selection) -> Holders
+    // Who has a live task that the selection picks: the map of their places in the path list, and none where nobody
+    // has one. One pass over the records.
+    pub fn holders(self, s: Selection) -> Option<u64>
         ensures { result ≡ holders_of self s }
     {
-        let mut paths: u64 = 0;
-        let mut found = false;
-        let mut i: usize = 0;
-        while i < RECORDS {
-            let a = self.tasks[i];
-            if task::select::picked_live(self.live, s, i, a) {
-                paths = task::map::with_bit(paths, a.path as usize);
-                found = true;
+        let mut held = None;
+        for (i, a) in self.tasks.iter().enumerate() {
+            if task::select::picked_live(self.live, s, i, *a) {
+                held = Some(task::map::with_bit(held.unwrap_or(0), a.path as usize));
             }
-            i += 1;
         }
-        Holders { paths, found }
+        held
     }
 
     // The map of the units on which a live task that the selection picks runs: one pass over the records.
@@ -140,13 +129,10 @@ impl Table {
         ensures { result ≡ running_among self s }
     {
         let mut units: u64 = 0;
-        let mut i: usize = 0;
-        while i < RECORDS {
-            let a = self.tasks[i];
-            if runs_picked(self.live, s, i, a) {
+        for (i, a) in self.tasks.iter().enumerate() {
+            if runs_picked(self.live, s, i, *a) {
                 units = task::map::with_bit(units, a.unit as usize);
             }
-            i += 1;
         }
         (units % 256) as u8
     }
@@ -155,15 +141,13 @@ impl Table {
     pub fn others_on(self, unit: u8, sender: u8) -> u8
         ensures { result ≡ others_on self unit sender }
     {
-        let held = self.holders(Selection::on_unit(unit));
+        let held = self.holders(Selection::on_unit(unit)).unwrap_or(0);
         let mut map: u8 = 0;
-        let mut p: u8 = 0;
-        while p < MOST_PATHS {
-            let has = task::map::is_live(held.paths, p as usize);
+        for p in 0..MOST_PATHS {
+            let has = task::map::is_live(held, p as usize);
             if is_other_on(self.count, sender, p, has) {
                 map = with_path(map, p);
             }
-            p += 1;
         }
         map
     }

@@ -10,19 +10,12 @@ pub mod units;
 
 use task::{RECORDS, Task};
 
-// A path's pending unit attention. The first variant is the zero of a wiped record, here and in Aca.
+// A path's pending unit attention. The first variant is the zero of a wiped record.
 #[derive(Clone, Copy)]
 pub enum Attention {
     Nothing,
     Reset,
     Cleared,
-}
-
-// A unit's auto contingent allegiance: none, or owned by the path at a place of the path list.
-#[derive(Clone, Copy)]
-pub enum Aca {
-    Clear,
-    Owned(u8),
 }
 
 // A return path: its id, its buffer-full mark, its pending attention.
@@ -33,9 +26,10 @@ pub struct Path {
     pub attention: Attention,
 }
 
+// A unit: the owner of its auto contingent allegiance, as the path's place in the path list, or none.
 #[derive(Clone, Copy)]
 pub struct Unit {
-    pub aca: Aca,
+    pub aca: Option<u8>,
 }
 
 // The table: which records are live, the next arrival number, how many paths are listed, the mask of attached units.

@@ -93,14 +93,10 @@ fn with_cleared_attention(a: Path) -> Path
 pub fn place_of(paths: [Path; PATHS], count: u8, id: u32) -> usize
     ensures { result ≡ place_of paths count id }
 {
-    let count = count as usize;
-    let mut p: usize = 0;
-    while p < PATHS {
-        let a = paths[p];
-        if has_id(count, id, p, a) {
+    for (p, a) in paths.iter().enumerate() {
+        if has_id(count as usize, id, p, *a) {
             return p;
         }
-        p += 1;
     }
     PATHS
 }
@@ -148,15 +144,10 @@ pub fn drop_attention(mut paths: [Path; PATHS], p: usize) -> [Path; PATHS]
 pub fn give_reset_attention(mut paths: [Path; PATHS], count: u8, unmark: bool) -> [Path; PATHS]
     ensures { result ≡ reset_attention_in paths count unmark }
 {
-    let n = count as usize;
-    let mut p: usize = 0;
-    while p < PATHS {
-        if p < n {
-            let a = paths[p];
-            let b = with_reset_attention(a, unmark);
-            paths[p] = b;
+    for (p, a) in paths.iter_mut().enumerate() {
+        if p < count as usize {
+            *a = with_reset_attention(*a, unmark);
         }
-        p += 1;
     }
     paths
 }
@@ -165,14 +156,10 @@ pub fn give_reset_attention(mut paths: [Path; PATHS], count: u8, unmark: bool) -
 pub fn give_cleared_attention(mut paths: [Path; PATHS], others: u8) -> [Path; PATHS]
     ensures { result ≡ cleared_attention_in paths others }
 {
-    let mut p: usize = 0;
-    while p < PATHS {
+    for (p, a) in paths.iter_mut().enumerate() {
         if bit_of(others, p) {
-            let a = paths[p];
-            let b = with_cleared_attention(a);
-            paths[p] = b;
+            *a = with_cleared_attention(*a);
         }
-        p += 1;
     }
     paths
 }

@@ -1,42 +1,25 @@
 // The all-zero table, and the table that setup gives.
-ghost use Rattle.std.specs.Prelude.{◌≡◌, ◌≤◌, ◌<◌, length};
+ghost use Rattle.std.specs.Prelude.{◌≡◌, ◌≤◌, length};
 ghost use Rattle.table.specs.Tables.{zero_table};
-ghost use Rattle.table.specs.Setup.{seen_before, bad_list, setup_table, paths_of};
+ghost use Rattle.table.specs.Setup.{bad_list, setup_table, paths_of};
 
 use crate::{Attention, PATHS, Path, Table, UNITS};
 use task::RECORDS;
-
-// Whether id i of the list stands among those before it.
-fn seen_before(ids: &[u32], i: usize) -> bool
-    requires { i < length ids.now }
-    ensures { result ≡ seen_before ids.now i }
-{
-    let mut j: usize = 0;
-    while j < i {
-        if ids[i] == ids[j] {
-            return true;
-        }
-        j += 1;
-    }
-    false
-}
 
 // Whether the list has no path, over 8, or an id twice.
 pub fn bad_list(ids: &[u32]) -> bool
     ensures { result ≡ bad_list ids.now }
 {
-    if ids.len() == 0 {
+    if ids.is_empty() {
         return true;
     }
     if ids.len() > PATHS {
         return true;
     }
-    let mut i: usize = 0;
-    while i < ids.len() {
-        if seen_before(ids, i) {
+    for (i, id) in ids.iter().enumerate() {
+        if ids[..i].contains(id) {
             return true;
         }
-        i += 1;
     }
     false
 }
@@ -48,15 +31,12 @@ fn listed(ids: &[u32]) -> [Path; PATHS]
 {
     let none = crate::paths::no_path();
     let mut paths = [none; PATHS];
-    let mut i: usize = 0;
-    while i < ids.len() {
-        let a = Path {
-            id: ids[i],
+    for (i, id) in ids.iter().enumerate() {
+        paths[i] = Path {
+            id: *id,
             full: false,
             attention: Attention::Reset,
         };
-        paths[i] = a;
-        i += 1;
     }
     paths
 }

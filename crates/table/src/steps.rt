@@ -119,15 +119,13 @@ impl Table {
                 return self;
             }
             Step::End(which) => {
-                let mut i: usize = 0;
-                while i < RECORDS {
+                for i in 0..RECORDS {
                     let a = self.tasks[i];
                     if task::select::picked_live(self.live, which, i, a) {
                         let none = task::no_task();
                         self.tasks[i] = none;
                         self.live = task::map::without_bit(self.live, i);
                     }
-                    i += 1;
                 }
                 return self;
             }

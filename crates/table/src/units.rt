@@ -3,42 +3,36 @@ ghost use Rattle.std.specs.Prelude.{◌≡◌};
 ghost use Rattle.table.specs.Tables;
 ghost use Rattle.table.specs.Tables.{unit_at, is_attached, has_aca, owned_by, aca_at, claimed_in, aca_cleared_in};
 
-use crate::{Aca, Table, UNITS, Unit};
+use crate::{Table, UNITS, Unit};
 
 // A unit wiped to zero.
 pub(crate) fn no_unit() -> Unit
     ensures { result ≡ Tables.no_unit }
 {
-    Unit { aca: Aca::Clear }
+    Unit { aca: None }
 }
 
 // Whether there is an ACA.
-pub fn has_aca(a: Aca) -> bool
+pub fn has_aca(a: Option<u8>) -> bool
     ensures { result ≡ has_aca a }
 {
-    match a {
-        Aca::Clear => false,
-        Aca::Owned(_) => true,
-    }
+    a.is_some()
 }
 
 // Whether the ACA is owned by the path.
-pub fn owned_by(aca: Aca, path: u8) -> bool
+pub fn owned_by(aca: Option<u8>, path: u8) -> bool
     ensures { result ≡ owned_by aca path }
 {
-    match aca {
-        Aca::Clear => false,
-        Aca::Owned(p) => p == path,
-    }
+    aca == Some(path)
 }
 
 // The ACA of a unit, and none past the end.
-pub fn aca_at(units: [Unit; UNITS], unit: u8) -> Aca
+pub fn aca_at(units: [Unit; UNITS], unit: u8) -> Option<u8>
     ensures { result ≡ aca_at units unit }
 {
     let u = unit as usize;
     if u >= UNITS {
-        return Aca::Clear;
+        return None;
     }
     let a = units[u];
     a.aca
@@ -53,17 +47,11 @@ pub fn claim(mut units: [Unit; UNITS], unit: u8, path: u8) -> [Unit; UNITS]
         return units;
     }
     let a = units[u];
-    let aca = a.aca;
-    match aca {
-        Aca::Owned(_) => units,
-        Aca::Clear => {
-            let b = Unit {
-                aca: Aca::Owned(path),
-            };
-            units[u] = b;
-            units
-        }
+    if has_aca(a.aca) {
+        return units;
     }
+    units[u] = Unit { aca: Some(path) };
+    units
 }
 
 // The unit's ACA goes, Some(unit), or that of every unit, None.

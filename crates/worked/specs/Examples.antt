@@ -1,9 +1,8 @@
 -- Page 01's proved examples a to l as one table, its worked calls as page 02's M-103 has them, which answers hold the
 -- queue as another table, confirmed status as a third, and what each order ends. Paths 1 and 2, mask 01h, no attention,
 -- nothing live unless said; tag 0005h, path 1, kind 3, zero CDB.
-use Rattle.std.specs.Prelude.{Result, Ok, Err}
-use Rattle.std.specs.Prelude.{ℕ, zero, suc, ◌+◌, ◌-◌, ◌^◌, ◌≡◌, Bool, true, false, List, [], ◌∷◌, map, replicate}
 use Rattle.wire.specs.declared.codes.Refusal.{Refusal}
+use Rattle.std.specs.Prelude.{Result, Ok, Err, ℕ, zero, suc, ◌+◌, ◌-◌, ◌^◌, ◌≡◌, Bool, true, false, List, [], ◌∷◌, map, replicate, Option, Some, None}
 use Rattle.wire.specs.Codes
 use Rattle.reply.specs.Calls.{placed}
 use Rattle.task.specs.Tasks.{no_task, accepted_as}
@@ -15,8 +14,6 @@ use Rattle.table.specs.Tables.{no_path, no_unit, path_at, accepted, started, fin
 use Rattle.table.specs.declared.Table.{Table}
 use Rattle.table.specs.declared.Path as path
 use Rattle.table.specs.declared.Unit as unit
-use Rattle.table.specs.declared.Aca.{Aca}
-use Rattle.table.specs.declared.Aca.TheVariants.{Clear, Owned}
 use Rattle.table.specs.declared.Attention.{Attention}
 use Rattle.table.specs.declared.Attention.TheVariants as attention
 use Rattle.plan.specs.declared.Answer.{Answer}
@@ -203,7 +200,7 @@ abbrev pub first : Bool → Attention → path.Path
 first full pending = record { id = 1; full = full; attention = pending }
 
 -- the quiet table with another first path, and another ACA on unit 0
-abbrev pub quiet_with : path.Path → Aca → Table
+abbrev pub quiet_with : path.Path → Option ℕ → Table
 quiet_with a aca = record {
   live = 0;
   next = 1;
@@ -215,17 +212,17 @@ quiet_with a aca = record {
 }
 
 -- path 1 has reset attention, cleared attention; it is marked as well; unit 0 has ACA of path 1, of path 2
-abbrev pub attentive : Attention → Aca → Table
+abbrev pub attentive : Attention → Option ℕ → Table
 attentive pending aca = quiet_with (first false pending) aca
 
 abbrev pub marked : Table
-marked = quiet_with (first true attention.Reset) Clear
+marked = quiet_with (first true attention.Reset) None
 
 abbrev pub mine : Table
-mine = quiet_with (listed 1) (Owned 0)
+mine = quiet_with (listed 1) (Some 0)
 
 abbrev pub theirs : Table
-theirs = quiet_with (listed 1) (Owned 1)
+theirs = quiet_with (listed 1) (Some 1)
 
 -- kind ACA; LINK set
 abbrev pub aca_kind : List ℕ → List ℕ
@@ -237,37 +234,37 @@ link_set = 0 ∷ 0 ∷ 0 ∷ 0 ∷ 0 ∷ 1 ∷ []
 -- a message with its answer, and after it: the ACA of unit 0, and path 1 with its mark and attention
 pub record Hold : Type 0 where
   pub example : Example
-  pub aca : Aca
+  pub aca : Option ℕ
   pub sender : path.Path
 
-abbrev pub row : Example → Aca → path.Path → Hold
+abbrev pub row : Example → Option ℕ → path.Path → Hold
 row e aca a = record { example = e; aca = aca; sender = a }
 
 -- by the number of the rule that answers
 unfoldable pub holdings : List Hold
 holdings =
-    row (check quiet (aca_kind zeros) 0x05 0x49) (Owned 0) (listed 1)  -- 7: no ACA and kind ACA
-    ∷ row (check (attentive attention.Reset Clear) (aca_kind zeros) 0x05 0x49) (Owned 0) (first false attention.Reset)  -- the attention stays
-    ∷ row (check (attentive attention.Reset Clear) plain 0x06 0x29) (Owned 0) (listed 1)  -- 8: the attention goes, the ACA comes
-    ∷ row (check (attentive attention.Cleared Clear) plain 0x06 0x2f) (Owned 0) (listed 1)
-    ∷ row (check marked resumed 0x06 0x29) (Owned 0) (listed 1)  -- the mark goes too
-    ∷ row (check quiet (command 1 0 3 0 (0x60 ∷ [])) 0x05 0x20) (Owned 0) (listed 1)  -- 9
-    ∷ row (check quiet (command 1 0 3 0 link_set) 0x05 0x24) (Owned 0) (listed 1)  -- 10
-    ∷ row (check (attentive attention.Reset (Owned 0)) (aca_kind zeros) 0x06 0x29) (Owned 0) (listed 1)  -- of the owner: 8
-    ∷ row (check mine (aca_kind (0x60 ∷ [])) 0x05 0x20) (Owned 0) (listed 1)  -- 9
-    ∷ row (check mine (aca_kind link_set) 0x05 0x24) (Owned 0) (listed 1)  -- 10
-    ∷ row (status mine plain 0x30) (Owned 0) (listed 1)  -- 7: 30h to the owner, to another
-    ∷ row (status theirs (aca_kind zeros) 0x30) (Owned 1) (listed 1)
-    ∷ row (status (attentive attention.Reset (Owned 1)) plain 0x30) (Owned 1) (first false attention.Reset)
-    ∷ row (check quiet (command 1 7 3 0 zeros) 0x05 0x25) Clear (listed 1)  -- 6
-    ∷ row (status full plain 0x28) Clear (first true attention.Nothing)  -- 1: 28h
-    ∷ row (response quiet resumed 0xff) Clear (listed 1)  -- 1: FFh
-    ∷ row (refuses (quiet_with (first true attention.Nothing) Clear) plain 4) Clear (first true attention.Nothing)  -- 1: 4
-    ∷ row (refuses quiet (command 1 0 3 0 (replicate 5 0)) 1) Clear (listed 1)  -- 2
-    ∷ row (response quiet (command 1 0 3 1 zeros) 0xff) Clear (listed 1)  -- 3
-    ∷ row (invalid quiet (command 1 0 0x53 0 zeros)) Clear (listed 1)  -- 4
-    ∷ row (response (accepted quiet 0 5 0 Simple End) plain 0x04) Clear (listed 1)  -- 5
-    ∷ row (accept quiet plain 1) Clear (listed 1)  -- 11
+    row (check quiet (aca_kind zeros) 0x05 0x49) (Some 0) (listed 1)  -- 7: no ACA and kind ACA
+    ∷ row (check (attentive attention.Reset None) (aca_kind zeros) 0x05 0x49) (Some 0) (first false attention.Reset)  -- the attention stays
+    ∷ row (check (attentive attention.Reset None) plain 0x06 0x29) (Some 0) (listed 1)  -- 8: the attention goes, the ACA comes
+    ∷ row (check (attentive attention.Cleared None) plain 0x06 0x2f) (Some 0) (listed 1)
+    ∷ row (check marked resumed 0x06 0x29) (Some 0) (listed 1)  -- the mark goes too
+    ∷ row (check quiet (command 1 0 3 0 (0x60 ∷ [])) 0x05 0x20) (Some 0) (listed 1)  -- 9
+    ∷ row (check quiet (command 1 0 3 0 link_set) 0x05 0x24) (Some 0) (listed 1)  -- 10
+    ∷ row (check (attentive attention.Reset (Some 0)) (aca_kind zeros) 0x06 0x29) (Some 0) (listed 1)  -- of the owner: 8
+    ∷ row (check mine (aca_kind (0x60 ∷ [])) 0x05 0x20) (Some 0) (listed 1)  -- 9
+    ∷ row (check mine (aca_kind link_set) 0x05 0x24) (Some 0) (listed 1)  -- 10
+    ∷ row (status mine plain 0x30) (Some 0) (listed 1)  -- 7: 30h to the owner, to another
+    ∷ row (status theirs (aca_kind zeros) 0x30) (Some 1) (listed 1)
+    ∷ row (status (attentive attention.Reset (Some 1)) plain 0x30) (Some 1) (first false attention.Reset)
+    ∷ row (check quiet (command 1 7 3 0 zeros) 0x05 0x25) None (listed 1)  -- 6
+    ∷ row (status full plain 0x28) None (first true attention.Nothing)  -- 1: 28h
+    ∷ row (response quiet resumed 0xff) None (listed 1)  -- 1: FFh
+    ∷ row (refuses (quiet_with (first true attention.Nothing) None) plain 4) None (first true attention.Nothing)  -- 1: 4
+    ∷ row (refuses quiet (command 1 0 3 0 (replicate 5 0)) 1) None (listed 1)  -- 2
+    ∷ row (response quiet (command 1 0 3 1 zeros) 0xff) None (listed 1)  -- 3
+    ∷ row (invalid quiet (command 1 0 0x53 0 zeros)) None (listed 1)  -- 4
+    ∷ row (response (accepted quiet 0 5 0 Simple End) plain 0x04) None (listed 1)  -- 5
+    ∷ row (accept quiet plain 1) None (listed 1)  -- 11
     ∷ []
 
 abbrev pub after : Hold → (Result Answer ℕ × List ℕ) × (List unit.Unit × path.Path)
@@ -288,7 +285,7 @@ sends_aca t = message_of t (aca_kind zeros) 64
 abbrev pub AgainPasses : Type 0
 AgainPasses =
     ((sends_aca (sends_aca quiet).table).answer ≡ Ok (Accepted 1))
-    × (map (λ (o : Outcome). numbered o.answer) (let u = attentive attention.Reset Clear in sends_aca u ∷ sends_aca (sends_aca u).table ∷ sends_aca (sends_aca (sends_aca u).table).table ∷ [])
+    × (map (λ (o : Outcome). numbered o.answer) (let u = attentive attention.Reset None in sends_aca u ∷ sends_aca (sends_aca u).table ∷ sends_aca (sends_aca (sends_aca u).table).table ∷ [])
     ≡ (Ok (Reply (Status 5 Codes.check_condition Codes.no_aca_there))) ∷ (Ok (Reply (Status 5 Codes.check_condition Codes.reset_occurred))) ∷ (Ok (Accepted 1)) ∷ [])
 
 -- path 2's task runs on unit 0; path 1's bad command holds the queue; the task goes on, and its finish with 02h leaves
@@ -303,7 +300,7 @@ abbrev pub ends : Outcome
 ends = finish_of bad.table 1 Codes.check_condition Codes.no_sense 0 64
 
 abbrev pub held : List unit.Unit
-held = record { aca = Owned 0 } ∷ replicate 7 no_unit
+held = record { aca = Some 0 } ∷ replicate 7 no_unit
 
 abbrev pub RunsOn : Type 0
 RunsOn =
@@ -377,7 +374,7 @@ owned = record {
   count = 2;
   attached = 0x03;
   paths = quiet.paths;
-  units = no_unit ∷ record { aca = Owned 1 } ∷ replicate 6 no_unit;
+  units = no_unit ∷ record { aca = Some 1 } ∷ replicate 6 no_unit;
   tasks = quiet.tasks;
 }
 

@@ -1,6 +1,5 @@
 -- `paths_distinct` meets its contract. The loop's invariant: every listed path below p is the first with its
 -- id. Assumes nothing.
-use Prim.Native.Nat.{◌≤◌, ◌-◌}
 use mathlib.Core.Path.{◌≡◌}
 use mathlib.Core.Bool.{true}
 use Rattle.task.specs.Index.{all_below}
@@ -8,7 +7,4 @@ use Rattle.sound.proofs.Checking.{first_with_id}
 use Rattle.sound.proofs.paths_distinct.Given as goal
 
 abbrev pub invariant-loop-p : goal.invariant-loop-p
-invariant-loop-p l = (l.p ≤ 8) × (all_below l.p (first_with_id l.t) ≡ true)
-
-abbrev pub decreases-loop-p : goal.decreases-loop-p
-decreases-loop-p l = 8 - l.p
+invariant-loop-p l = all_below l.p (first_with_id l.fn.t) ≡ true

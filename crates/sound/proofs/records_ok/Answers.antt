@@ -1,13 +1,12 @@
 -- `records_ok` meets its contract. The loop's invariant: every record below i is in order. Assumes nothing.
 use native.Mathlib.Omega.{arith}
-use borrow.Author.Rules.{rules}
 use Rattle.task.proofs.Loops.{all_loop, all_miss, all_more}
 use Rattle.sound.specs.Sound.{records_ok}
 use Rattle.sound.proofs.Checking.{record_fine}
 use Rattle.sound.proofs.records_ok.Goals as goal
 
 pub loop-i-init : goal.loop-i-init
-loop-i-init c = search (rules, all_loop)
+loop-i-init c = search all_loop
 
 pub returns-then-not-record_ok : goal.returns-then-not-record_ok
 unfolding records_ok
@@ -18,7 +17,7 @@ returns-then-not-record_ok c =
 pub loop-i-preserved : goal.loop-i-preserved
 loop-i-preserved c =
     let e = rw c.aca_at-aca.ensures at c.record_ok.ensures in
-    (omega arith, all_more (record_fine c.args.t) c.loop-i.i c.loop-i.invariant.1 e c.if-not-record_ok.false)
+    all_more (record_fine c.args.t) c.loop-i.i c.loop-i.invariant e c.if-not-record_ok.false
 
 pub returns : goal.returns
 unfolding records_ok

@@ -1,18 +1,17 @@
 -- `units_ok` meets its contract. The loop's invariant: every unit below u is in order. Assumes nothing.
-use borrow.Author.Rules.{rules}
 use Rattle.task.proofs.Loops.{all_loop}
 use Rattle.sound.specs.Sound.{units_ok}
 use Rattle.sound.proofs.units_ok.Goals as goal
 
 pub loop-u-init : goal.loop-u-init
-loop-u-init c = search (rules, all_loop)
+loop-u-init c = search all_loop
 
 pub returns-then-not-unit_ok : goal.returns-then-not-unit_ok
 unfolding units_ok
 returns-then-not-unit_ok c = search all_loop
 
 pub loop-u-preserved : goal.loop-u-preserved
-loop-u-preserved c = search (rules, all_loop)
+loop-u-preserved c = search all_loop
 
 pub returns : goal.returns
 unfolding units_ok

@@ -1,5 +1,4 @@
 -- `units_ok` meets its contract. The loop's invariant: every unit below u is in order. Assumes nothing.
-use Prim.Native.Nat.{◌≤◌, ◌-◌}
 use mathlib.Core.Path.{◌≡◌}
 use mathlib.Core.Bool.{true}
 use Rattle.task.specs.Index.{all_below}
@@ -7,7 +6,4 @@ use Rattle.sound.proofs.Checking.{unit_fine}
 use Rattle.sound.proofs.units_ok.Given as goal
 
 abbrev pub invariant-loop-u : goal.invariant-loop-u
-invariant-loop-u l = (l.u ≤ 8) × (all_below l.u (unit_fine l.t) ≡ true)
-
-abbrev pub decreases-loop-u : goal.decreases-loop-u
-decreases-loop-u l = 8 - l.u
+invariant-loop-u l = all_below l.u (unit_fine l.fn.t) ≡ true

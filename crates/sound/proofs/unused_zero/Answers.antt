@@ -2,16 +2,15 @@
 -- nothing.
 use mathlib.Core.Path.{◌≡◌}
 use mathlib.Core.Bool.{true, false}
-use borrow.Author.Rules.{rules}
 use Rattle.task.proofs.Loops.{all_loop}
 use Rattle.sound.specs.Sound.{unused_zero}
 use Rattle.task.proofs.Ways.{ways}
 use Rattle.sound.proofs.Checking.{used_or_zero}
-use Rattle.sound.proofs.unused_zero.Goals.{then-p-count+else-not-is_no_path, else-p-count}
+use Rattle.sound.proofs.unused_zero.Goals.{then-p-t+else-not-is_no_path, else-p-t}
 use Rattle.sound.proofs.unused_zero.Goals as goal
 
 pub loop-p-init : goal.loop-p-init
-loop-p-init c = search (rules, all_loop)
+loop-p-init c = search all_loop
 
 pub returns-then-not-is_no_path : goal.returns-then-not-is_no_path
 unfolding unused_zero
@@ -22,8 +21,8 @@ returns-then-not-is_no_path c =
 pub loop-p-preserved : goal.loop-p-preserved
 loop-p-preserved c =
     let h : true ≡ used_or_zero c.args.t c.loop-p.p =
-    elim c.if-p-count.branch [ then-p-count+else-not-is_no_path w ↦ search ways | else-p-count w ↦ search ways ] in
-    search (rules, all_loop)
+    elim c.if-p-t.branch [ then-p-t+else-not-is_no_path w ↦ search ways | else-p-t w ↦ search ways ] in
+    search all_loop
 
 pub returns : goal.returns
 unfolding unused_zero

@@ -1,6 +1,5 @@
 -- `unused_zero` meets its contract. The loop's invariant: every path below p is listed or all zero. Assumes
 -- nothing.
-use Prim.Native.Nat.{◌≤◌, ◌-◌}
 use mathlib.Core.Path.{◌≡◌}
 use mathlib.Core.Bool.{true}
 use Rattle.task.specs.Index.{all_below}
@@ -8,7 +7,4 @@ use Rattle.sound.proofs.Checking.{used_or_zero}
 use Rattle.sound.proofs.unused_zero.Given as goal
 
 abbrev pub invariant-loop-p : goal.invariant-loop-p
-invariant-loop-p l = (l.p ≤ 8) × (all_below l.p (used_or_zero l.t) ≡ true)
-
-abbrev pub decreases-loop-p : goal.decreases-loop-p
-decreases-loop-p l = 8 - l.p
+invariant-loop-p l = all_below l.p (used_or_zero l.fn.t) ≡ true

@@ -1,12 +1,8 @@
 -- `Table::others_on` meets its contract. The loop's invariant: the map is that of the others below p. Assumes nothing.
-use Prim.Native.Nat.{◌≤◌, ◌-◌}
 use mathlib.Core.Path.{◌≡◌}
 use Rattle.task.specs.Index.{map_of}
 use Rattle.table.specs.Tables.{is_other_on}
 use Rattle.table.proofs.Table.others_on.Given as goal
 
 abbrev pub invariant-loop-p : goal.invariant-loop-p
-invariant-loop-p l = (l.p ≤ 8) × (l.map ≡ map_of l.p (is_other_on l.self l.unit l.sender))
-
-abbrev pub decreases-loop-p : goal.decreases-loop-p
-decreases-loop-p l = 8 - l.p
+invariant-loop-p l = l.map ≡ map_of l.p (is_other_on l.fn.self l.unit l.sender)

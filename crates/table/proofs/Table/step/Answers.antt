@@ -31,18 +31,16 @@ pub returns-in-Alter : goal.returns-in-Alter
 returns-in-Alter c = search (step_ways, alter_ways)
 
 pub loop-i-init : goal.loop-i-init
-loop-i-init c = (omega arith, search end_loop, search (rules, unmapped))
+loop-i-init c = search end_loop
 
 pub loop-i-preserved : goal.loop-i-preserved
 loop-i-preserved c =
-    let loop = c.loop-i in
-    let h : loop.i < 64 = omega arith in
-    let e = loop.invariant.1 in
-    let n = loop.invariant.2 in
+    let h : c.loop-i.i < 64 = omega arith in
+    let e = c.loop-i.invariant in
     let p = c.picked_live.ensures in
     elim c.if-picked_live.branch [
-      | then-picked_live w ↦ (omega arith, end_wiped _ _ _ e h p w.if-picked_live.true w.self-is w.no_task-none.ensures w.without_bit.ensures n, n)
-      | else-picked_live w ↦ (omega arith, end_kept _ _ _ e h p w.if-picked_live.false w.self-is, n)
+      | then-picked_live w ↦ end_wiped _ _ _ e h p w.if-picked_live.true w.self-is w.no_task-none.ensures w.without_bit.ensures (search (rules, unmapped))
+      | else-picked_live w ↦ end_kept _ _ _ e h p w.if-picked_live.false w.self-is
     ]
 
 pub returns-in-End : goal.returns-in-End

@@ -2,22 +2,24 @@
 -- the others as they were. Assumes nothing.
 use native.Mathlib.Omega.{arith}
 use borrow.Author.Rules.{rules}
+use Rattle.task.proofs.Ways.{answered_true, answered_false}
 use Rattle.table.proofs.Lists.{unmapped}
-use Rattle.table.proofs.Changing.{path_loop, paths_end}
+use Rattle.table.proofs.Changing.{paths_start, path_through, path_kept, paths_end}
 use Rattle.table.specs.Tables.{cleared_attention_in}
 use Rattle.table.proofs.paths.give_cleared_attention.Goals.{then-bit_of, else-bit_of}
 use Rattle.table.proofs.paths.give_cleared_attention.Goals as goal
 
 pub loop-p-init : goal.loop-p-init
-loop-p-init c = (omega arith, search path_loop)
+loop-p-init c = (paths_start _ _ _, search (rules, unmapped))
 
 pub loop-p-preserved : goal.loop-p-preserved
 loop-p-preserved c =
+    let l = c.loop-p.invariant in
     elim c.if-bit_of.branch [
-      | then-bit_of w ↦ (omega arith, search (rules, path_loop))
-      | else-bit_of w ↦ (omega arith, search (rules, path_loop))
+      | then-bit_of w ↦ path_through _ _ _ _ l.0 l.1 w.a-items-is w.with_cleared_attention.ensures (answered_true c.bit_of.ensures w.if-bit_of.true) c.loop-p-test.true
+      | else-bit_of w ↦ path_kept _ _ _ _ l.0 l.1 w.a-items-is (answered_false c.bit_of.ensures w.if-bit_of.false) c.loop-p-test.true
     ]
 
 pub returns : goal.returns
 unfolding cleared_attention_in
-returns c = paths_end _ _ _ _ c.loop-p.invariant.1 (omega arith) (omega arith) (search (rules, unmapped))
+returns c = let l = c.loop-p.invariant in paths_end _ _ _ _ l.0 l.1 (omega arith) (omega arith)

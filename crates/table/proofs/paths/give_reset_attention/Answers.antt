@@ -2,22 +2,24 @@
 -- others as they were. Assumes nothing.
 use native.Mathlib.Omega.{arith}
 use borrow.Author.Rules.{rules}
+use borrow.Author.Tests.{lt-ltb, le-ltb}
 use Rattle.table.proofs.Lists.{unmapped}
-use Rattle.table.proofs.Changing.{path_loop, paths_end}
+use Rattle.table.proofs.Changing.{paths_start, path_through, path_kept, paths_end}
 use Rattle.table.specs.Tables.{reset_attention_in}
-use Rattle.table.proofs.paths.give_reset_attention.Goals.{then-p-n, else-p-n}
+use Rattle.table.proofs.paths.give_reset_attention.Goals.{then-p-count, else-p-count}
 use Rattle.table.proofs.paths.give_reset_attention.Goals as goal
 
 pub loop-p-init : goal.loop-p-init
-loop-p-init c = (omega arith, search path_loop)
+loop-p-init c = (paths_start _ _ _, search (rules, unmapped))
 
 pub loop-p-preserved : goal.loop-p-preserved
 loop-p-preserved c =
-    elim c.if-p-n.branch [
-      | then-p-n w ↦ (omega arith, search (rules, path_loop))
-      | else-p-n w ↦ (omega arith, search (rules, path_loop))
+    let l = c.loop-p.invariant in
+    elim c.if-p-count.branch [
+      | then-p-count w ↦ path_through _ _ _ _ l.0 l.1 w.a-items-is w.with_reset_attention.ensures (lt-ltb _ _ w.if-p-count.true) c.loop-p-test.true
+      | else-p-count w ↦ path_kept _ _ _ _ l.0 l.1 w.a-items-is (le-ltb _ _ w.if-p-count.false) c.loop-p-test.true
     ]
 
 pub returns : goal.returns
 unfolding reset_attention_in
-returns c = paths_end _ _ _ _ c.loop-p.invariant.1 (omega arith) (omega arith) (search (rules, unmapped))
+returns c = let l = c.loop-p.invariant in paths_end _ _ _ _ l.0 l.1 (omega arith) (omega arith)

@@ -1,24 +1,29 @@
 -- `setup::bad_list` meets its contract. The loop's invariant: no id below i stands among those before it. Assumes
 -- nothing.
-use native.Mathlib.Omega.{arith}
+use Rattle.task.proofs.Ways.{ways}
 use Rattle.task.proofs.Loops.{some_loop}
-use Rattle.table.proofs.Setting.{list_ways}
+use Rattle.table.specs.Setup.{bad_list}
+use Rattle.table.proofs.Setting.{seen_law}
 use Rattle.table.proofs.setup.bad_list.Goals as goal
 
-pub returns-then-ids-eq0 : goal.returns-then-ids-eq0
-returns-then-ids-eq0 c = search list_ways
+pub returns-then-is_empty : goal.returns-then-is_empty
+unfolding bad_list
+returns-then-is_empty c = search ways
 
 pub returns-then-ids-gt-PATHS : goal.returns-then-ids-gt-PATHS
-returns-then-ids-gt-PATHS c = search list_ways
+unfolding bad_list
+returns-then-ids-gt-PATHS c = search ways
 
 pub loop-i-init : goal.loop-i-init
-loop-i-init c = (omega arith, search some_loop)
+loop-i-init c = search some_loop
 
-pub returns-then-seen_before : goal.returns-then-seen_before
-returns-then-seen_before c = search (list_ways, some_loop)
+pub returns-then-contains : goal.returns-then-contains
+unfolding bad_list
+returns-then-contains c = search (ways, some_loop, seen_law)
 
 pub loop-i-preserved : goal.loop-i-preserved
-loop-i-preserved c = (omega arith, search some_loop)
+loop-i-preserved c = search (some_loop, seen_law)
 
 pub returns : goal.returns
-returns c = search (list_ways, some_loop)
+unfolding bad_list
+returns c = search (ways, some_loop)

@@ -7,8 +7,8 @@ pub returns-then-u-ge-UNITS : goal.returns-then-u-ge-UNITS
 unfolding claimed_in
 returns-then-u-ge-UNITS c = search bounded
 
-pub returns-in-Owned : goal.returns-in-Owned
-returns-in-Owned c = search aca_ways
+pub returns-then-has_aca : goal.returns-then-has_aca
+returns-then-has_aca c = search aca_ways
 
-pub returns-in-Clear : goal.returns-in-Clear
-returns-in-Clear c = search aca_ways
+pub returns : goal.returns
+returns c = search aca_ways
