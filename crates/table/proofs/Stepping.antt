@@ -13,7 +13,7 @@ use native.Mathlib.Numerals.{add-one}
 use native.Mathlib.Omega.{arith}
 use lib.Dec.{eqb, ltb, lit<}
 use lib.ListN.{length}
-use Rattle.std.specs.Prelude.{Option, Some, None}
+use Rattle.std.specs.Prelude.{Option, Some, None, is_some}
 use Rattle.std.specs.Option.{unwrap_or, is_some}
 use Rattle.task.specs.Index.{some_below, map_of}
 use Rattle.task.specs.Map.{is_live, with_bit}
@@ -148,11 +148,11 @@ module _ (t : Table) (s : Selection) where
   pub holders_map : length t.tasks ≡ 64 → unwrap_or (holders_of t s) 0 ≡ map_of 64 (holds_one t s)
   unfolding holders_of gathered any_live
   holders_map n =
-      elim (either_way (pick_of t s).found) [ inl e ↦ rw e | inr e ↦ rw e (none_holds 64 (sym (any_found t s n) ∙ e)) ]
+      elim (either_way (is_some (pick_of t s))) [ inl e ↦ rw e | inr e ↦ rw e (none_holds 64 (sym (any_found t s n) ∙ e)) ]
 
-  pub holders_found : is_some (holders_of t s) ≡ (pick_of t s).found
+  pub holders_found : is_some (holders_of t s) ≡ (is_some (pick_of t s))
   unfolding holders_of
-  holders_found = elim (either_way (pick_of t s).found) [ inl e ↦ rw e | inr e ↦ rw e ]
+  holders_found = elim (either_way (is_some (pick_of t s))) [ inl e ↦ rw e | inr e ↦ rw e ]
 
   -- and where one of them runs
   pub running_all : {m k : ℕ} → k ≤ 64 → 64 ≤ k → m ≡ gathered (runs_picked t s) (unit_in t) k → m % 256 ≡ running_among t s
