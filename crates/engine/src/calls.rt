@@ -1,5 +1,6 @@
 // The five calls, and the part of a message that is its command block.
 ghost use Rattle.std.specs.Prelude.{◌≡◌, cond, ltb};
+ghost use Rattle.task.specs.Scan.{task_or_none};
 ghost use Rattle.engine.specs.Calls.{reply_path, heard_of, sender_of, may_go, rejected, may_finish, sent_sense, replied};
 ghost use Rattle.engine.specs.Steps.{step_of, chosen_by, judged_by};
 ghost use Rattle.engine.specs.Calls.{SetupContract, MessageContract, StartContract, FinishContract, TotalResetContract, CommandBlockContract};
@@ -14,9 +15,9 @@ use rules::facts::{Lookup, look_up, unit_alone};
 use sound::is_sound;
 use table::steps::{Alteration, Step, finish_step, finish_units};
 use table::{Aca, PATHS, Table};
-use task::RECORDS;
 use task::scan::Pick;
-use task::select::{Place, Selection};
+use task::select::Selection;
+use task::{RECORDS, Task};
 use wire::codes::{REPLY_ROOM, Refusal, Sense, StatusByte};
 
 // The path that a reply goes to, and 0 where the answer is none.
@@ -194,7 +195,8 @@ fn reject(n: Refusal) -> Verdict
 
 // What a start comes to, by what was asked of the table: whether it passed the check, the unit is attached and busy,
 // and the task that may go next there.
-fn choose(checked: bool, attached: bool, busy: bool, p: Pick) -> Verdict
+#[tactic(auto, unfolding(crate::specs::Steps::chosen_by))]
+fn choose(checked: bool, attached: bool, busy: bool, p: Option<Pick>) -> Verdict
     ensures { result ≡ chosen_by checked attached busy p }
 {
     if !checked {
@@ -206,9 +208,9 @@ fn choose(checked: bool, attached: bool, busy: bool, p: Pick) -> Verdict
     if busy {
         return reject(Refusal::UNIT_BUSY);
     }
-    if !p.found {
+    let Some(p) = p else {
         return reject(Refusal::NOTHING_TO_START);
-    }
+    };
     let a = p.task;
     Verdict {
         answer: Answer::Started {
@@ -276,7 +278,15 @@ fn sent_sense(status: StatusByte, sense: Sense) -> Sense
 
 // What a finish comes to, by what was asked of the table: whether it passed the check, the running task of the arrival
 // number, and the id of its path; for a reply buffer of n bytes.
-fn judge(checked: bool, n: usize, status: StatusByte, sense: Sense, p: Pick, id: u32) -> Verdict
+#[tactic(auto, unfolding(crate::specs::Steps::judged_by))]
+fn judge(
+    checked: bool,
+    n: usize,
+    status: StatusByte,
+    sense: Sense,
+    p: Option<Pick>,
+    id: u32,
+) -> Verdict
     ensures { result ≡ judged_by checked n status sense p id }
 {
     if !checked {
@@ -288,9 +298,9 @@ fn judge(checked: bool, n: usize, status: StatusByte, sense: Sense, p: Pick, id:
     if !may_finish(status, sense) {
         return reject(Refusal::BAD_STATUS);
     }
-    if !p.found {
+    let Some(p) = p else {
         return reject(Refusal::NOT_RUNNING);
-    }
+    };
     let a = p.task;
     Verdict {
         answer: Answer::Reply(Reply::Status {
@@ -301,6 +311,13 @@ fn judge(checked: bool, n: usize, status: StatusByte, sense: Sense, p: Pick, id:
         place: p.at,
         to: id,
     }
+}
+
+// The task that was picked, and a wiped one where there is none.
+fn task_or_none(p: Option<Pick>) -> Task
+    ensures { result ≡ task_or_none p }
+{
+    p.map_or(task::no_task(), |p| p.task)
 }
 
 // The device has finished the running task of an arrival number, after so many bytes: it ends, or with CONFIRM waits
@@ -324,7 +341,7 @@ pub fn finish(
     };
     let sound = is_sound(t);
     let p = t.pick(Selection::running_as(arrival));
-    let a = p.task;
+    let a = task_or_none(p);
     let sender = t.path_at(a.path as usize);
     let v = judge(sound, reply.len(), StatusByte(status), s, p, sender.id);
     let answer = v.answer;
@@ -358,7 +375,7 @@ pub fn total_reset(mut t: Table) -> Outcome
         let reset = table::paths::give_reset_attention(paths, t.count, true);
         t.paths = reset;
         let units = t.units;
-        let clear = table::units::clear_aca(units, Place::Anywhere);
+        let clear = table::units::clear_aca(units, None);
         t.units = clear;
         t = t.step(Step::End(Selection::ALL));
         answer = Answer::Reset;
