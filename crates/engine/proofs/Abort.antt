@@ -17,6 +17,7 @@ use Rattle.task.specs.Selections.{picks, named}
 use Rattle.task.specs.declared.Task.{Task}
 use Rattle.task.specs.declared.select.Selection.{Selection}
 use Rattle.task.proofs.Ways.{either_way, never, both}
+use Rattle.std.specs.Prelude.{is_some}
 use Rattle.task.proofs.Places.{first_ext}
 use Rattle.task.proofs.Selecting.{picks_named}
 use Rattle.table.specs.Tables.{place_of, path_of, any_live, pick_of}
@@ -69,7 +70,7 @@ named_path : (a : Task) (p tag : ℕ) → picks (named p tag) a ≡ true → a.p
 named_path a p tag e = eqb-true a.path p (both _ _ (sym (picks_named a p tag) ∙ e)).0
 
 same_taken : {path : ℕ} {t u : Table} → Good t → Good u → Agree path t u → (tag : ℕ)
-    → (pick_of t (named (path_of t path) tag)).found ≡ (pick_of u (named (path_of t path) tag)).found
+    → is_some (pick_of t (named (path_of t path) tag)) ≡ is_some (pick_of u (named (path_of t path) tag))
 same_taken {path = path} {t = t} {u = u} g h a tag =
     let s = named (path_of t path) tag in
     any_is_found t s g.shaped
@@ -92,9 +93,9 @@ module _ (t : Table) (m : List ℕ) (path tag tag2 : ℕ) where
   p = path_of t path
 
   abbrev defined : Result Answer Refusal
-  defined = abort_answer m tag p (pick_of t (named p tag2)).found
+  defined = abort_answer m tag p (is_some (pick_of t (named p tag2)))
 
-  plan_answer : (plan_at t m p tag abort).answer ≡ response m tag (pick_of t (named p tag2)).found
+  plan_answer : (plan_at t m p tag abort).answer ≡ response m tag (is_some (pick_of t (named p tag2)))
   unfolding plan_at lookup_of order_code facts_of
   plan_answer = order_answer (facts_of t p tag2 (unit_asked abort)) _ p tag m (order.AbortTask tag2)
 

@@ -8,6 +8,7 @@ use mathlib.Core.Path.{◌≡◌, refl, sym, ap, ◌∙◌}
 use mathlib.Core.Bool.{Bool, true, false, cond, not, ◌&&◌, ◌||◌}
 use mathlib.Core.List.{List}
 use mathlib.Core.Option.{none}
+use Rattle.std.specs.Prelude.{Option, Some, None}
 use lib.Dec.{eqb, leb, ltb}
 use lib.ListN.{length}
 use Rattle.wire.proofs.Table.{cond_ind}
@@ -20,15 +21,15 @@ use Rattle.wire.specs.declared.codes.Sense.{Sense}
 use Rattle.wire.specs.declared.message.Message.{Message}
 use Rattle.reply.specs.Calls.{left_of}
 use Rattle.reply.specs.declared.Reply.{Reply}
-use Rattle.reply.specs.declared.Reply.TheVariants as reply
 use Rattle.task.specs.Map.{gone}
+use Rattle.task.specs.Scan.{task_or_none}
 use Rattle.task.specs.Selections.{every_task, running_on, waiting_on, aca_waiting_on, running_as}
 use Rattle.wire.specs.declared.codes.Kind.{Kind}
 use Rattle.task.specs.declared.Sequel.{Sequel}
-use Rattle.task.specs.declared.select.Place.TheVariants.{Anywhere}
+use Rattle.task.specs.declared.Task.{Task}
 use Rattle.task.specs.declared.scan.Pick.{Pick}
 use Rattle.task.specs.declared.select.Selection.{Selection}
-use Rattle.task.proofs.Ways.{never, answered_true, answered_false}
+use Rattle.task.proofs.Ways.{option_ind, never, answered_true, answered_false}
 use Rattle.task.proofs.Maps.{gone_none}
 use Rattle.task.proofs.Next.{scan_stands}
 use Rattle.table.specs.Tables.{path_of, path_at, unit_at, task_at, is_attached, has_aca, pick_of, others_on, reset_attention_in, aca_cleared_in, with_paths, with_units, finished}
@@ -59,7 +60,7 @@ use Rattle.plan.specs.declared.Plan.{Plan}
 use Rattle.plan.proofs.Promises.{others_unasked, tasks_unasked}
 use Rattle.plan.specs.declared.Answer.{Answer}
 use Rattle.plan.specs.declared.Answer.TheVariants as answer
-use Rattle.engine.specs.Calls.{out, refused, heard_of, sender_of, lookup_for, plan_at, plan_for, with_records, carried_out, reply_path, stops_for, carried, answered_to, message_of, verdict, settled, closed, rejected, may_go, choice_on, start_verdict, start_of, may_finish, sent_sense, failed, finish_verdict, finish_of, total_reset_of, setup_of, replied, Answers, is_accepted}
+use Rattle.engine.specs.Calls.{out, refused, heard_of, sender_of, lookup_for, plan_at, plan_for, with_records, carried_out, reply_path, stops_for, carried, answered_to, message_of, settled, closed, rejected, may_go, choice_on, start_verdict, start_of, may_finish, failed, finish_verdict, reports, finish_of, total_reset_of, setup_of, replied, Answers, is_accepted}
 use Rattle.engine.specs.Steps.{step_of, chosen_by, judged_by}
 use Rattle.engine.specs.declared.Outcome.{Outcome}
 use Rattle.engine.specs.declared.calls.Verdict.{Verdict}
@@ -178,11 +179,11 @@ carries t m room s h p c g f d k = rw (g, c, d, k, f, p, h, s) (carried_heard t 
 
 -- ---- start
 
-pub chosen : (t : Table) (lun : ℕ) {u : unit.Unit} {s : Selection} {p : Pick} → u ≡ unit_at t lun → s ≡ may_go u.aca lun → p ≡ pick_of t s → p ≡ choice_on t lun
+pub chosen : (t : Table) (lun : ℕ) {u : unit.Unit} {s : Selection} {p : Option Pick} → u ≡ unit_at t lun → s ≡ may_go u.aca lun → p ≡ pick_of t s → p ≡ choice_on t lun
 unfolding choice_on
 chosen t lun e h k = k ∙ rw (h, e)
 
-pub starts : (t : Table) (lun : ℕ) {b f r : Bool} {q : Selection} {h : Option ℕ} {p : Pick} {v : Verdict} {u : Table} → b ≡ sound_of t → q ≡ running_on lun → h ≡ holders_of t q → r ≡ is_some h → p ≡ choice_on t lun → f ≡ is_attached t lun
+pub starts : (t : Table) (lun : ℕ) {b f r : Bool} {q : Selection} {h : Option ℕ} {p : Option Pick} {v : Verdict} {u : Table} → b ≡ sound_of t → q ≡ running_on lun → h ≡ holders_of t q → r ≡ is_some h → p ≡ choice_on t lun → f ≡ is_attached t lun
     → v ≡ chosen_by b f r p → u ≡ stepped t (step.Alter v.place Run) → settled v u ≡ start_of t lun
 unfolding start_of start_verdict chosen_by stepped
 starts t lun s k h y c d e g = rw (g, e, s, y, h, k, holders_found t (running_on lun), c, d)
@@ -191,41 +192,46 @@ starts t lun s k h y c d e g = rw (g, e, s, y, h, k, holders_found t (running_on
 
 -- the record that a finish is about holds the running task of the arrival number, or is none
 module _ (t : Table) (arrival : ℕ) where
-  stands : (pick_of t (running_as arrival)).found ≡ true → (pick_of t (running_as arrival)).task ≡ task_at t (pick_of t (running_as arrival)).at
+  stands : (p : Pick) → pick_of t (running_as arrival) ≡ Some p → p.task ≡ task_at t p.at
   unfolding pick_of
-  stands f = (scan_stands t.live (running_as arrival) t.tasks f).task
+  stands p e = (scan_stands t.live (running_as arrival) t.tasks p e).task
 
   module _ (x : StatusByte) (s : Sense) (transferred room : ℕ) where
-    abbrev found : Pick
+    abbrev found : Option Pick
     found = pick_of t (running_as arrival)
 
     abbrev judgement : Verdict
     judgement = finish_verdict t arrival x s room
 
-    abbrev Left : Verdict → Type 0
-    Left v = stepped (with_units t (finish_units t.units t.live v.place found.task (failed x))) (finish_step t.live v.place found.task transferred) ≡ finished t v.place (failed x) transferred
+    abbrev Left : Task → Verdict → Type 0
+    Left a v = stepped (with_units t (finish_units t.units t.live v.place a (failed x))) (finish_step t.live v.place a transferred) ≡ finished t v.place (failed x) transferred
 
-    none_left : (r : Refusal) → Left (rejected r)
-    none_left r = finish_of_none t (failed x) transferred found.task
+    none_left : (a : Task) (r : Refusal) → Left a (rejected r)
+    none_left a r = finish_of_none t (failed x) transferred a
 
-    left : Left judgement
+    reported : (id : ℕ) → Left (task_or_none found) (reports found id x s)
+    reported id =
+        option_ind (λ (p : Option Pick). Left (task_or_none p) (reports p id x s)) found (λ _. none_left _ Codes.not_running)
+        (λ p e. rw (stands p e) (finish_is_step t (failed x) transferred p.at))
+
+    left : Left (task_or_none found) judgement
     unfolding finish_verdict
     left =
-        cond_ind Left (not (sound_of t)) (λ _. none_left Codes.not_sound) (λ _.
-        cond_ind Left (ltb room Codes.reply_room) (λ _. none_left Codes.small_buffer) (λ _.
-        cond_ind Left (not (may_finish x s)) (λ _. none_left Codes.bad_status) (λ _.
-        cond_ind Left (not found.found) (λ _. none_left Codes.not_running) (λ f. rw (stands (not-false _ f)) (finish_is_step t (failed x) transferred found.at)))))
+        let L : Verdict → Type 0 = Left (task_or_none found) in
+        cond_ind L (not (sound_of t)) (λ _. none_left _ Codes.not_sound) (λ _.
+        cond_ind L (ltb room Codes.reply_room) (λ _. none_left _ Codes.small_buffer) (λ _.
+        cond_ind L (not (may_finish x s)) (λ _. none_left _ Codes.bad_status) (λ _. reported _)))
 
-    pub finishes : {b : Bool} {q : Selection} {p : Pick} {from : path.Path} {v : Verdict} {l : List unit.Unit} {k : Step} {u : Table} {n : ℕ} → b ≡ sound_of t → q ≡ running_as arrival → p ≡ pick_of t q
-        → from ≡ path_at t p.task.path → v ≡ judged_by b room x s p from.id → l ≡ finish_units t.units t.live v.place p.task (failed x)
-        → k ≡ finish_step t.live v.place p.task transferred → u ≡ stepped (with_units t l) k → n ≡ gone t.live u.live
+    pub finishes : {b : Bool} {q : Selection} {p : Option Pick} {a : Task} {from : path.Path} {v : Verdict} {l : List unit.Unit} {k : Step} {u : Table} {n : ℕ} → b ≡ sound_of t → q ≡ running_as arrival → p ≡ pick_of t q
+        → a ≡ task_or_none p → from ≡ path_at t a.path → v ≡ judged_by b room x s p from.id → l ≡ finish_units t.units t.live v.place a (failed x)
+        → k ≡ finish_step t.live v.place a transferred → u ≡ stepped (with_units t l) k → n ≡ gone t.live u.live
         → record { table = u; answer = v.answer; ended = n; to = v.to; stops = 0 } ≡ finish_of t arrival x s transferred room
     unfolding finish_of judged_by finish_verdict
-    finishes h y g d e c w z n =
-        let j : _ ≡ judgement = e ∙ rw (h, d, g, y) judged_so in
-        rw (n, z, w, c, j, g, y) (ap (closed judgement t) left)
+    finishes h y g f d e c w z n =
+        let j : _ ≡ judgement = e ∙ rw (h, d, f, g, y) judged_so in
+        rw (n, z, w, c, j, f, g, y) (ap (closed judgement t) left)
       where
-        judged_so : judged_by (sound_of t) room x s found (path_at t found.task.path).id ≡ judgement
+        judged_so : judged_by (sound_of t) room x s found (path_at t (task_or_none found).path).id ≡ judgement
         judged_so = refl
 
 -- ---- total reset and setup
@@ -235,7 +241,7 @@ module _ (t : Table) {b : Bool} (e : b ≡ sound_of t) where
   unfolding total_reset_of
   reset_refused h d k = rw (← e, h) (rw (k, d, gone_none t.live))
 
-  pub resets : {u : Table} {l : List path.Path} {us : List unit.Unit} {g stops : ℕ} → b ≡ true → stops ≡ running_among t every_task → l ≡ reset_attention_in t.paths t.count true → us ≡ aca_cleared_in t.units Anywhere
+  pub resets : {u : Table} {l : List path.Path} {us : List unit.Unit} {g stops : ℕ} → b ≡ true → stops ≡ running_among t every_task → l ≡ reset_attention_in t.paths t.count true → us ≡ aca_cleared_in t.units None
       → u ≡ stepped (with_units (with_paths t l) us) (step.End every_task) → g ≡ gone t.live u.live → length t.tasks ≡ 64
       → record { table = u; answer = Ok answer.Reset; ended = g; to = 0; stops = stops } ≡ total_reset_of t
   unfolding total_reset_of stepped

@@ -10,6 +10,8 @@ use mathlib.Core.Option.{Option, none, some}
 use lib.ListN.{length}
 use borrow.Author.Tests.{eq-eqb, eqb-true}
 use Rattle.wire.specs.Messages.{read_of}
+use Rattle.std.specs.Prelude.{Some}
+use Rattle.std.specs.declared.option.Option as option
 use Rattle.task.specs.Tasks.{transferred_of, restarts}
 use Rattle.task.specs.Selections.{picks, named, numbered_as}
 use Rattle.task.specs.declared.Task.{Task}
@@ -24,7 +26,8 @@ use Rattle.sound.specs.Promises.{Good}
 use Rattle.table.specs.declared.Table.{Table}
 use Rattle.table.proofs.Views.{OnlyTasks, live_at, spared, at_ended, ended_only, ended_next, altered_at_law, altered_other, altered_only, altered_next, pick_at}
 use Rattle.rules.specs.Facts.{lookup_of}
-use Rattle.plan.specs.Plans.{asking, asked_of, asked_in, is_awaited}
+use Rattle.plan.specs.Plans.{asking, asked_of, asked_in, is_awaited, awaited}
+use Rattle.plan.proofs.Promises.{awaited_is}
 use Rattle.plan.specs.declared.Request.TheVariants.{Confirm}
 use Rattle.plan.specs.declared.Plan.{Plan}
 use Rattle.plan.specs.declared.Answer.{Answer}
@@ -51,15 +54,15 @@ module _ (t : Table) (path tag offset : ℕ) (complete : Bool) where
   p = path_of t path
 
   -- the sender's task with the tag
-  abbrev own : Pick
+  abbrev own : option.Option Pick
   own = pick_of t (named p tag)
 
   module _ (g : Good t) where
-    awaited : is_awaited own ≡ true → Awaited t path tag own.task.arrival own.at own.task
-    awaited e =
-        let b = both own.found _ e in
+    waits : (w : Pick) → awaited own ≡ Some w → Awaited t path tag w.task.arrival w.at w.task
+    waits w e =
+        let b = awaited_is own w e in
         let f = pick_at t (named p tag) g.shaped b.0 in
-        let n = both _ _ (sym (picks_named own.task p tag) ∙ f.picked) in
+        let n = both _ _ (sym (picks_named w.task p tag) ∙ f.picked) in
         record { below = f.below; here = f.here; sender = eqb-true _ _ n.0; named = eqb-true _ _ n.1; number = refl; waits = b.1 }
 
     module _ {i : ℕ} {a : Task} (w : Awaited t path tag a.arrival i a) where
@@ -97,10 +100,10 @@ module _ (t : Table) (path tag offset : ℕ) (complete : Bool) where
       unfolding plan_at lookup_of carried_out with_records
       plan_meant =
           each_confirm (λ (pl : Plan). Meant pl.answer (carried_out t pl)) own p tag m offset complete tt tt
-          (λ e c. let w = awaited e in (c, own.at, own.task, w, ends w, only w _ (ended_only t _) (ended_next t _) (ends_no_other w)))
-          (λ e c l.
-          let w = awaited e in
-          (c, own.at, own.task, w, l, goes_again w, only w _ (altered_only t own.at _) (altered_next t own.at _) (λ j _. altered_other t own.at _ j)))
+          (λ q e c. let w = waits q e in (c, q.at, q.task, w, ends w, only w _ (ended_only t _) (ended_next t _) (ends_no_other w)))
+          (λ q e c l.
+          let w = waits q e in
+          (c, q.at, q.task, w, l, goes_again w, only w _ (altered_only t q.at _) (altered_next t q.at _) (λ j _. altered_other t q.at _ j)))
 
       -- the outcome of a call that is asked for it
       meant : asked_in (read_of m) ≡ Ok (asking path tag (Confirm offset complete)) → (n : ℕ) → Meant (message_of t m n).answer (message_of t m n).table

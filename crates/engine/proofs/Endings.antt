@@ -31,10 +31,10 @@ message_gone t m n = each_message (Gone t) t (λ _. sym (gone_none t.live)) m (�
 
 pub start_gone : (t : Table) (unit : ℕ) → Gone t (start_of t unit)
 start_gone t unit =
-    each_start (Gone t) t (λ _. sym (gone_none t.live)) unit (λ _ _ _. sym (ap (gone t.live) (altered_map t _ _) ∙ gone_none t.live))
+    each_start (Gone t) t (λ _. sym (gone_none t.live)) unit (λ _ _ _ _. sym (ap (gone t.live) (altered_map t _ _) ∙ gone_none t.live))
 
 pub finish_gone : (t : Table) (arrival : ℕ) (status : StatusByte) (s : Sense) (transferred n : ℕ) → Gone t (finish_of t arrival status s transferred n)
-finish_gone t arrival status s transferred n = each_finish (Gone t) t (λ _. sym (gone_none t.live)) arrival status s transferred n (λ _. refl)
+finish_gone t arrival status s transferred n = each_finish (Gone t) t (λ _. sym (gone_none t.live)) arrival status s transferred n (λ _ _. refl)
 
 pub reset_gone : (t : Table) → Gone t (total_reset_of t)
 reset_gone t = each_reset (Gone t) t (λ _. sym (gone_none t.live)) refl

@@ -15,7 +15,7 @@ use Rattle.task.specs.Tasks.{is_aca}
 use Rattle.task.specs.Selections.{picks, every_task, named, on_unit, aca_on, aca_from_on, running_on, waiting_on, aca_waiting_on}
 use Rattle.wire.specs.declared.codes.Kind.TheVariants as kind
 use Rattle.task.specs.declared.Task.{Task}
-use Rattle.task.specs.declared.select.Place.TheVariants.{Anywhere, On}
+use Rattle.std.specs.Prelude.{Some, None, is_some}
 use Rattle.wire.proofs.Table.{cond_ind}
 use Rattle.task.proofs.Ways.{never, both}
 use Rattle.task.proofs.Places.{first_picks}
@@ -94,7 +94,7 @@ module _ (t : Table) (p tag lun : ℕ) (flags : Flags) (m : List ℕ) where
     may_come : Shaped t → p < t.count → MayCome t p tag lun flags.queue
     unfolding command_rules room_rules field_rules unit_rules block_rules facts_of
     may_come h l =
-        let by-owner : is_aca flags.queue ≡ true → (owned_by (unit_at t lun).aca p ≡ true) × ((pick_of t (aca_on lun)).found ≡ false) =
+        let by-owner : is_aca flags.queue ≡ true → (owned_by (unit_at t lun).aca p ≡ true) × (is_some (pick_of t (aca_on lun)) ≡ false) =
         λ a. owner_alone facts flags a (none_applied 8) (none_applied 9) in
         record {
           listed = l;
@@ -183,11 +183,11 @@ module _ (t : Table) (g : Good t) (p : ℕ) (l : p < t.count) where
   done_keeps m (AbortTaskSet lun) e = end_keeps t _ g
   done_keeps m (ClearTaskSet lun) e = end_keeps _ _ (cleared_attention_keeps t lun p g)
   done_keeps m (ClearAca lun) e =
-      clear_keeps (ended_by t (aca_from_on p lun)) (On lun) (end_keeps t _ g) (none_owned t g p lun (owner_clears (asked (ClearAca lun)) m lun e))
+      clear_keeps (ended_by t (aca_from_on p lun)) (Some lun) (end_keeps t _ g) (none_owned t g p lun (owner_clears (asked (ClearAca lun)) m lun e))
   done_keeps m (UnitReset lun) e =
-      clear_keeps (ended_by attentive (on_unit lun)) (On lun) (end_keeps attentive _ attentive_good) (none_on attentive attentive_good lun)
+      clear_keeps (ended_by attentive (on_unit lun)) (Some lun) (end_keeps attentive _ attentive_good) (none_on attentive attentive_good lun)
   done_keeps m TargetReset e =
-      clear_keeps (ended_by attentive every_task) Anywhere (end_keeps attentive _ attentive_good) (none_anywhere attentive attentive_good)
+      clear_keeps (ended_by attentive every_task) None (end_keeps attentive _ attentive_good) (none_anywhere attentive attentive_good)
 
   plan_keeps : (m : List ℕ) (tag : ℕ) (w : Request) → Good (carried_out t (plan_at t m p tag w))
   unfolding carried_out with_records plan_at lookup_of order_plan facts_of
@@ -195,8 +195,8 @@ module _ (t : Table) (g : Good t) (p : ℕ) (l : p < t.count) where
   plan_keeps m tag (Manage o) =
       cond_ind (λ (pl : Plan). Good (carried_out t pl)) (eqb (order_code (asked o) m o).0 (Codes.done).0) (λ e. done_keeps m o (eqb-true _ _ e)) (λ _. g)
   plan_keeps m tag (Confirm offset complete) =
-      each_confirm (λ (pl : Plan). Good (carried_out t pl)) (pick_of t (named p tag)) p tag m offset complete g g (λ _ _. end_keeps t _ g)
-      (λ _ _ _. restart_keeps t _ offset g)
+      each_confirm (λ (pl : Plan). Good (carried_out t pl)) (pick_of t (named p tag)) p tag m offset complete g g (λ _ _ _. end_keeps t _ g)
+      (λ _ _ _ _. restart_keeps t _ offset g)
 
 abbrev GoodAfter : Outcome → Type 0
 GoodAfter o = Good o.table
@@ -214,15 +214,15 @@ pub start_keeps : StartKeeps
 unfolding choice_on
 start_keeps t unit g =
     each_start GoodAfter t (λ _. g) unit
-    (λ _ idle found.
+    (λ _ idle p found.
     let f = pick_at t _ g.shaped found in
-    let here : (task_at t (choice_on t unit).at).unit ≡ unit =
+    let here : (task_at t p.at).unit ≡ unit =
     ap (λ (a : Task). a.unit) (live_at t _ f.here).1 ∙ on_unit_law _ (has_aca (unit_at t unit).aca) unit f.picked in
-    start-task-keeps t (choice_on t unit).at g (rw here (sym (any_is_found t (running_on unit) g.shaped) ∙ idle)))
+    start-task-keeps t p.at g (rw here (sym (any_is_found t (running_on unit) g.shaped) ∙ idle)))
 
 pub finish_keeps : FinishKeeps
 finish_keeps t arrival status s transferred n g =
-    each_finish GoodAfter t (λ _. g) arrival status s transferred n (λ _. finish-task-keeps t _ _ transferred g)
+    each_finish GoodAfter t (λ _. g) arrival status s transferred n (λ _ _. finish-task-keeps t _ _ transferred g)
 
 pub reset_keeps : ResetKeeps
 reset_keeps t g = each_reset GoodAfter t (λ _. g) (reset-table-keeps t g)

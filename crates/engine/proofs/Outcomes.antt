@@ -12,10 +12,13 @@ use Rattle.wire.specs.declared.codes.Refusal.{Refusal}
 use Rattle.wire.specs.declared.codes.StatusByte.{StatusByte}
 use Rattle.wire.specs.declared.codes.Sense.{Sense}
 use Rattle.reply.specs.declared.Reply.TheVariants as reply
+use Rattle.std.specs.Prelude.{Option, Some, is_some}
+use Rattle.task.specs.Scan.{task_or_none}
 use Rattle.task.specs.Tasks.{offset_of, transferred_of}
 use Rattle.task.specs.Selections.{every_task, running_on, running_as, numbered_as}
 use Rattle.task.specs.declared.scan.Pick.{Pick}
 use Rattle.wire.proofs.Table.{cond_ind}
+use Rattle.task.proofs.Ways.{option_ind}
 use Rattle.task.proofs.Maps.{gone_none}
 use Rattle.table.specs.Steps.{running_among}
 use Rattle.table.specs.Tables.{path_of, path_at, is_attached, pick_of, started, finished, reset_of}
@@ -23,7 +26,7 @@ use Rattle.sound.specs.Sound.{sound_of}
 use Rattle.table.specs.declared.Table.{Table}
 use Rattle.table.proofs.Views.{altered_none, finished_none}
 use Rattle.rules.specs.declared.change.Change.TheVariants as change
-use Rattle.plan.specs.Plans.{asking, asked_of, asked_in, planned, refusing, is_awaited, confirm_plan}
+use Rattle.plan.specs.Plans.{asking, asked_of, asked_in, planned, refusing, is_awaited, confirm_plan, awaited, confirmed}
 use Rattle.plan.specs.declared.Request.{Request}
 use Rattle.plan.specs.declared.Asked.{Asked}
 use Rattle.plan.specs.declared.RecordChange.TheVariants as records
@@ -31,7 +34,7 @@ use Rattle.plan.specs.declared.Plan.{Plan}
 use Rattle.plan.specs.declared.Answer.{Answer}
 use Rattle.plan.specs.declared.Answer.TheVariants as answer
 use Rattle.wire.proofs.Results.{same_Ok}
-use Rattle.engine.specs.Calls.{out, ending, refused, heard_of, plan_at, plan_for, with_records, carried_out, carried, answered_to, message_of, rejected, settled, closed, choice_on, start_verdict, start_of, may_finish, sent_sense, running_task, failed, finish_verdict, finish_of, total_reset_of, replied, Answers}
+use Rattle.engine.specs.Calls.{out, ending, refused, heard_of, plan_at, plan_for, with_records, carried_out, carried, answered_to, message_of, rejected, settled, closed, choice_on, start_verdict, start_of, may_finish, sent_sense, running_task, failed, finish_verdict, finish_of, total_reset_of, replied, Answers, goes, reports}
 use Rattle.engine.specs.declared.Outcome.{Outcome}
 use Rattle.engine.specs.declared.calls.Verdict.{Verdict}
 
@@ -68,27 +71,26 @@ module _ (P : Outcome → Type 0) (t : Table) (stops : (n : Refusal) → P (refu
 
   -- a start: refused, or the task that goes next runs
   pub each_start : (unit : ℕ)
-      → (is_attached t unit ≡ true → (pick_of t (running_on unit)).found ≡ false → (choice_on t unit).found ≡ true
-      → P (out (started t (choice_on t unit).at) (Ok (answer.Started (offset_of (choice_on t unit).task) (choice_on t unit).task.arrival)) 0))
+      → (is_attached t unit ≡ true → is_some (pick_of t (running_on unit)) ≡ false → (p : Pick) → choice_on t unit ≡ Some p
+      → P (out (started t p.at) (Ok (answer.Started (offset_of p.task) p.task.arrival)) 0))
       → P (start_of t unit)
   unfolding start_of start_verdict
-  each_start unit goes =
+  each_start unit goes_on =
       let Q : Verdict → Type 0 = λ v. P (settled v (started t v.place)) in
       let no : (n : Refusal) → Q (rejected n) = λ n. rw (altered_none t _) (stops n) in
       cond_ind Q (not (sound_of t)) (λ _. no _)
       (λ _. cond_ind Q (not (is_attached t unit)) (λ _. no _)
-      (λ a. cond_ind Q (pick_of t (running_on unit)).found (λ _. no _)
-      (λ r. cond_ind Q (not (choice_on t unit).found) (λ _. no _) (λ f. goes (not-false _ a) r (not-false _ f)))))
+      (λ a. cond_ind Q (is_some (pick_of t (running_on unit))) (λ _. no _)
+      (λ r. option_ind (λ (p : Option Pick). Q (goes p)) (choice_on t unit) (λ _. no _) (λ p e. goes_on (not-false _ a) r p e))))
 
   -- a finish: refused, or the running task of the arrival number is finished
   module _ (arrival : ℕ) (status : StatusByte) (s : Sense) (transferred n : ℕ) where
     abbrev pub Ended : Type 0
-    Ended = P (ending t (finished t (pick_of t (running_as arrival)).at (failed status) transferred)
-        (Ok (answer.Reply (reply.Status (running_task t arrival).tag status (sent_sense status s)))) (path_at t (running_task t arrival).path).id 0)
+    Ended = (p : Pick) → pick_of t (running_as arrival) ≡ Some p → P (ending t (finished t p.at (failed status) transferred)
+        (Ok (answer.Reply (reply.Status p.task.tag status (sent_sense status s)))) (path_at t p.task.path).id 0)
 
     -- where the reply buffer has room, and the device's status and sense key may be sent
-    pub each_sent : (Codes.reply_room ≤ n → may_finish status s ≡ true → (pick_of t (running_as arrival)).found ≡ true → Ended)
-        → P (finish_of t arrival status s transferred n)
+    pub each_sent : (Codes.reply_room ≤ n → may_finish status s ≡ true → Ended) → P (finish_of t arrival status s transferred n)
     unfolding finish_of finish_verdict
     each_sent goes =
         let Q : Verdict → Type 0 = λ v. P (closed v t (finished t v.place (failed status) transferred)) in
@@ -96,9 +98,10 @@ module _ (P : Outcome → Type 0) (t : Table) (stops : (n : Refusal) → P (refu
         cond_ind Q (not (sound_of t)) (λ _. no _)
         (λ _. cond_ind Q (ltb n Codes.reply_room) (λ _. no _)
         (λ l. cond_ind Q (not (may_finish status s)) (λ _. no _)
-        (λ m. cond_ind Q (not (pick_of t (running_as arrival)).found) (λ _. no _) (λ f. goes (ltb-false n _ l) (not-false _ m) (not-false _ f)))))
+        (λ m. option_ind (λ (p : Option Pick). Q (reports p (path_at t (task_or_none p).path).id status s)) (pick_of t (running_as arrival)) (λ _. no _)
+        (λ p e. goes (ltb-false n _ l) (not-false _ m) p e))))
 
-    pub each_finish : ((pick_of t (running_as arrival)).found ≡ true → Ended) → P (finish_of t arrival status s transferred n)
+    pub each_finish : Ended → P (finish_of t arrival status s transferred n)
     each_finish goes = each_sent (λ _ _. goes)
 
   pub each_reset : P (ending t (reset_of t) (Ok answer.Reset) 0 (running_among t every_task)) → P (total_reset_of t)
@@ -107,18 +110,18 @@ module _ (P : Outcome → Type 0) (t : Table) (stops : (n : Refusal) → P (refu
 
 -- a confirmation: FFh, or 15, or the task that waits to be confirmed ends, or it waits again at an offset within the
 -- bytes transferred
-module _ (P : Plan → Type 0) (own : Pick) (p tag : ℕ) (m : List ℕ) (offset : ℕ) (complete : Bool) where
+module _ (P : Plan → Type 0) (own : Option Pick) (p tag : ℕ) (m : List ℕ) (offset : ℕ) (complete : Bool) where
   pub each_confirm : P (planned (Ok (answer.Reply (reply.Response tag Codes.invalid_field))) change.Nothing records.Nothing) → P (refusing Codes.nothing_to_confirm)
-      → (is_awaited own ≡ true → complete ≡ true → P (planned (Ok (answer.Confirmed own.task.arrival)) change.Nothing (records.Complete (numbered_as own.task.arrival p tag))))
-      → (is_awaited own ≡ true → complete ≡ false → offset ≤ transferred_of own.task
-      → P (planned (Ok (answer.Restarted own.task.arrival)) change.Nothing (records.Restart own.at offset)))
+      → ((w : Pick) → awaited own ≡ Some w → complete ≡ true → P (planned (Ok (answer.Confirmed w.task.arrival)) change.Nothing (records.Complete (numbered_as w.task.arrival p tag))))
+      → ((w : Pick) → awaited own ≡ Some w → complete ≡ false → offset ≤ transferred_of w.task
+      → P (planned (Ok (answer.Restarted w.task.arrival)) change.Nothing (records.Restart w.at offset)))
       → P (confirm_plan own p tag m offset complete)
   unfolding confirm_plan
   each_confirm bad none ends again =
       cond_ind P (reserved_set m) (λ _. bad)
-      (λ _. cond_ind P (not (is_awaited own)) (λ _. none)
-      (λ w. cond_ind P complete (λ c. ends (not-false _ w) c)
-      (λ c. cond_ind P (ltb (transferred_of own.task) offset) (λ _. bad) (λ l. again (not-false _ w) c (ltb-false _ offset l)))))
+      (λ _. option_ind (λ (o : Option Pick). P (confirmed o p tag offset complete)) (awaited own) (λ _. none)
+      (λ w e. cond_ind P complete (λ c. ends w e c)
+      (λ c. cond_ind P (ltb (transferred_of w.task) offset) (λ _. bad) (λ l. again w e c (ltb-false _ offset l)))))
 
 -- the reply buffer as it is left, by the answer
 pub left_by : {defined o : Outcome} (buf : List ℕ) {left : List ℕ} {a : Result Answer Refusal} → Answers defined buf o left → o.answer ≡ a → left ≡ replied a buf

@@ -4,7 +4,7 @@
 -- nothing.
 use Rattle.std.specs.Prelude.{Result, Ok, Err}
 use Prim.Native.Nat.{ℕ, ◌+◌, ◌≤◌}
-use mathlib.Core.Path.{◌≡◌, refl, sym, ap, ◌∙◌}
+use mathlib.Core.Path.{◌≡◌, refl, sym, ap, ◌∙◌, subst}
 use mathlib.Core.Bool.{Bool, true, false, cond, ◌||◌}
 use mathlib.Core.List.{List}
 use native.Mathlib.Omega.{arith}
@@ -22,6 +22,7 @@ use Rattle.task.specs.Map.{gone}
 use Rattle.task.specs.Selections.{named}
 use Rattle.task.proofs.Ways.{never}
 use Rattle.task.proofs.Maps.{gone_none}
+use Rattle.task.specs.Next.{Next}
 use Rattle.task.proofs.Next.{scan_is_next}
 use Rattle.table.specs.Tables.{zero_table, path_of, unit_at, pick_of}
 use Rattle.table.specs.Setup.{bad_list, setup_table}
@@ -87,7 +88,7 @@ unfolding carried_out with_records
 plan_kept t s next p tag m (Command lun flags) = ruling_kept t next p tag lun flags (deciding s.facts flags m).gives
 plan_kept t s next p tag m (Manage o) = no_refusal (ap (λ (a : Result Answer Refusal). eqb (sort_of a) 7) (order_answer s.facts s.others p tag m o))
 plan_kept t s next p tag m (Confirm offset complete) =
-    each_confirm (PlanKept t) s.own p tag m offset complete (no_refusal refl) (λ _ _. (refl, refl)) (λ _ _. no_refusal refl) (λ _ _ _. no_refusal refl)
+    each_confirm (PlanKept t) s.own p tag m offset complete (no_refusal refl) (λ _ _. (refl, refl)) (λ _ _ _. no_refusal refl) (λ _ _ _ _. no_refusal refl)
 
 -- an outcome that meets a contract, where the outcome that it defines is kept
 as_defined : {t : Table} {defined o : Outcome} → Kept t defined → o ≡ defined → Kept t o
@@ -103,10 +104,10 @@ unfolding plan_at
 message_kept t m n = each_message (Kept t) t (λ _ _ _. (refl, refl)) m (λ path tag w _ _. plan_kept t _ _ _ tag m w) n
 
 finish_kept : (t : Table) (arrival : ℕ) (status : StatusByte) (s : Sense) (transferred n : ℕ) → Kept t (finish_of t arrival status s transferred n)
-finish_kept t arrival status s transferred n = each_finish (Kept t) t (λ _ _ _. (refl, refl)) arrival status s transferred n (λ _. no_refusal refl)
+finish_kept t arrival status s transferred n = each_finish (Kept t) t (λ _ _ _. (refl, refl)) arrival status s transferred n (λ _ _. no_refusal refl)
 
 start_kept : (t : Table) (unit : ℕ) → Kept t (start_of t unit)
-start_kept t unit = each_start (Kept t) t (λ _ _ _. (refl, refl)) unit (λ _ _ _. no_refusal refl)
+start_kept t unit = each_start (Kept t) t (λ _ _ _. (refl, refl)) unit (λ _ _ _ _. no_refusal refl)
 
 reset_kept : (t : Table) → Kept t (total_reset_of t)
 reset_kept t = each_reset (Kept t) t (λ _ _ _. (refl, refl)) (no_refusal refl)
@@ -141,7 +142,7 @@ pub nothing_ended : NothingEnded
 unfolding setup_of
 nothing_ended = record {
   message = λ t m buf o left n x. refused_ends n (message_kept t m (length buf)) (message_gone t m (length buf)) x.outcome;
-  start = λ t unit o e. rw e (each_start EndsNothing t (λ _. none_ended) unit (λ _ _ _. none_ended));
+  start = λ t unit o e. rw e (each_start EndsNothing t (λ _. none_ended) unit (λ _ _ _ _. none_ended));
   finish = λ t arrival status s transferred buf o left n x.
       refused_ends n (finish_kept t arrival status s transferred (length buf)) (finish_gone t arrival status s transferred (length buf)) x.outcome;
   total_reset = λ t o n. refused_ends n (reset_kept t) (reset_gone t);
@@ -173,7 +174,7 @@ message_whole t m n arrival =
     asked p tag (Manage o) e = unlike refl (sym (order_answer _ _ p tag m o) ∙ e)
     asked p tag (Confirm offset complete) e =
         each_confirm (λ (pl : Plan). pl.answer ≡ Ok (answer.Accepted arrival) → WholeBlock m) (pick_of t (named p tag)) p tag m offset complete (unlike refl) (unlike refl)
-        (λ _ _. unlike refl) (λ _ _ _. unlike refl) e
+        (λ _ _ _. unlike refl) (λ _ _ _ _. unlike refl) e
 
 long_enough : (m : List ℕ) → cut_short m ≡ false → 16 + block_length m ≤ length m
 unfolding cut_short
@@ -202,10 +203,9 @@ pub starts_next : StartsNext
 unfolding choice_on pick_of
 starts_next t unit offset arrival o e h =
     rw e (each_start (λ (o : Outcome). o.answer ≡ Ok (answer.Started offset arrival) → Goes t unit offset arrival o.table) t (λ _. unlike refl) unit
-    (λ _ _ found x. record {
-      pick = choice_on t unit;
-      found = found;
-      next = scan_is_next t.live (may_go (unit_at t unit).aca unit) t.tasks;
+    (λ _ _ p found x. record {
+      pick = p;
+      next = subst (Next t.live (may_go (unit_at t unit).aca unit) t.tasks (length t.tasks)) found (scan_is_next t.live (may_go (unit_at t unit).aca unit) t.tasks);
       number = cc;
       offset_named = cc;
       runs = refl;

@@ -85,7 +85,7 @@ unfolding writable_of
 plan_fits s next p tag m (Command lun flags) = ruling_fits s.facts next p tag m lun flags
 plan_fits s next p tag m (Manage o) = ap (λ (a : Result Answer Refusal). fits (reply_of a)) (order_answer s.facts s.others p tag m o) ∙ code_fits tag s.facts m o
 plan_fits s next p tag m (Confirm offset complete) =
-    each_confirm (λ (pl : Plan). Fits pl.answer) s.own p tag m offset complete refl refl (λ _ _. refl) (λ _ _ _. refl)
+    each_confirm (λ (pl : Plan). Fits pl.answer) s.own p tag m offset complete refl refl (λ _ _ _. refl) (λ _ _ _ _. refl)
 
 -- a finish: the four statuses that a device may send, and its sense key
 sent_fits : (tag : ℕ) (status : StatusByte) (s : Sense) → may_finish status s ≡ true → Fits (Ok (answer.Reply (reply.Status tag status (sent_sense status s))))
@@ -126,5 +126,5 @@ replies_are_written = record {
   message = λ t m buf _ _ r.
       by_contract buf r (each_heard (Sends buf) t (refusal_sends buf t) m (length buf) (λ l path tag w _ _ r. written _ buf r l (plan_fits _ _ _ tag m w)));
   finish = λ t arrival status s transferred buf _ _ r.
-      by_contract buf r (each_sent (Sends buf) t (refusal_sends buf t) arrival status s transferred (length buf) (λ l h _ r. written _ buf r l (sent_fits _ status s h)));
+      by_contract buf r (each_sent (Sends buf) t (refusal_sends buf t) arrival status s transferred (length buf) (λ l h _ _ r. written _ buf r l (sent_fits _ status s h)));
 }

@@ -1,6 +1,7 @@
 -- What each call answers, what table it hands back, what it ended, and what it leaves in the reply buffer: the refusals
 -- in their order, then the rest.
-use Rattle.std.specs.Prelude.{ℕ, Result, Ok, Err, ◌≡◌, Bool, true, false, cond, not, ◌&&◌, ◌||◌, List, [], length, eqb, ltb, leb}
+use Rattle.std.specs.Prelude.{ℕ, Result, Ok, Err, ◌≡◌, Bool, true, false, cond, not, ◌&&◌, ◌||◌, List, [], length, eqb, ltb, leb, Some, None, is_some}
+use Rattle.std.specs.declared.option.Option as option
 use Rattle.std.proofs.Math.Option.{Option, none, some}
 use Rattle.wire.specs.Codes
 use Rattle.wire.specs.Messages.{read_of}
@@ -12,9 +13,9 @@ use Rattle.reply.specs.Calls.{left_of}
 use Rattle.reply.specs.declared.Reply.{Reply}
 use Rattle.reply.specs.declared.Reply.TheVariants as reply
 use Rattle.task.specs.Map.{gone}
+use Rattle.task.specs.Scan.{task_or_none}
 use Rattle.task.specs.Tasks.{offset_of}
 use Rattle.task.specs.Selections.{every_task, running_on, waiting_on, aca_waiting_on, running_as}
-use Rattle.std.specs.declared.option.Option as std
 use Rattle.task.specs.declared.Task.{Task}
 use Rattle.task.specs.declared.scan.Pick.{Pick}
 use Rattle.task.specs.declared.select.Selection.{Selection}
@@ -141,24 +142,23 @@ abbrev pub closed : Verdict → Table → Table → Outcome
 closed v t u = ending t u v.answer v.to 0
 
 -- start, for a unit with nothing running: 13, 6, 7, 8. Under ACA only the ACA task may go
-abbrev pub may_go : std.Option ℕ → ℕ → Selection
+abbrev pub may_go : option.Option ℕ → ℕ → Selection
 may_go aca unit = cond (has_aca aca) (aca_waiting_on unit) (waiting_on unit)
 
-unfoldable pub choice_on : Table → ℕ → Pick
+unfoldable pub choice_on : Table → ℕ → option.Option Pick
 choice_on t unit = pick_of t (may_go (unit_at t unit).aca unit)
 
 -- the arrival number is answered, and the offset to start at: the one named by the last restart, 0 for a task never
--- restarted
-abbrev pub goes : Pick → Verdict
-goes p = verdict (Ok (answer.Started (offset_of p.task) p.task.arrival)) p.at 0
+-- restarted. With no task 8
+abbrev pub goes : option.Option Pick → Verdict
+goes None = rejected Codes.nothing_to_start
+goes (Some p) = verdict (Ok (answer.Started (offset_of p.task) p.task.arrival)) p.at 0
 
 unfoldable pub start_verdict : Table → ℕ → Verdict
 start_verdict t unit =
     cond (not (sound_of t)) (rejected Codes.not_sound)
     (cond (not (is_attached t unit)) (rejected Codes.not_attached)
-    (cond (pick_of t (running_on unit)).found (rejected Codes.unit_busy)
-    (cond (not (choice_on t unit).found) (rejected Codes.nothing_to_start)
-    (goes (choice_on t unit)))))
+    (cond (is_some (pick_of t (running_on unit))) (rejected Codes.unit_busy) (goes (choice_on t unit))))
 
 unfoldable pub start_of : Table → ℕ → Outcome
 start_of t unit = settled (start_verdict t unit) (started t (start_verdict t unit).place)
@@ -173,9 +173,14 @@ may_finish status s =
 abbrev pub sent_sense : StatusByte → Sense → Sense
 sent_sense status s = cond (eqb status.0 (Codes.check_condition).0) s Codes.no_sense
 
--- the running task of an arrival number
+-- the running task of an arrival number, and the wiped one where there is none
 abbrev pub running_task : Table → ℕ → Task
-running_task t arrival = (pick_of t (running_as arrival)).task
+running_task t arrival = task_or_none (pick_of t (running_as arrival))
+
+-- STATUS for the task that runs, to the path with the id; with no task 9
+abbrev pub reports : option.Option Pick → ℕ → StatusByte → Sense → Verdict
+reports None id status s = rejected Codes.not_running
+reports (Some p) id status s = verdict (Ok (answer.Reply (reply.Status p.task.tag status (sent_sense status s)))) p.at id
 
 abbrev pub failed : StatusByte → Bool
 failed status = eqb status.0 (Codes.check_condition).0
@@ -186,8 +191,7 @@ finish_verdict t arrival status s n =
     cond (not (sound_of t)) (rejected Codes.not_sound)
     (cond (ltb n Codes.reply_room) (rejected Codes.small_buffer)
     (cond (not (may_finish status s)) (rejected Codes.bad_status)
-    (cond (not (pick_of t (running_as arrival)).found) (rejected Codes.not_running)
-    (verdict (Ok (answer.Reply (reply.Status (running_task t arrival).tag status (sent_sense status s)))) (pick_of t (running_as arrival)).at (path_at t (running_task t arrival).path).id))))
+    (reports (pick_of t (running_as arrival)) (path_at t (running_task t arrival).path).id status s)))
 
 -- the task ends, or with CONFIRM waits to be confirmed, with the bytes transferred
 unfoldable pub finish_of : Table → ℕ → StatusByte → Sense → ℕ → ℕ → Outcome

@@ -1,6 +1,6 @@
 -- What is promised of the calls beside their contracts. Each is proved in proofs/Promises.antt or a file that its
 -- first lines name; Unique.antt has that outcomes are one.
-use Rattle.std.specs.Prelude.{Result, Ok, Err, ℕ, ◌<◌, ◌≤◌, ◌^◌, ◌≡◌, Bool, true, false, List, ◌++◌, length}
+use Rattle.std.specs.Prelude.{Result, Ok, Err, ℕ, ◌<◌, ◌≤◌, ◌^◌, ◌≡◌, Bool, true, false, List, ◌++◌, length, Some}
 use Rattle.std.proofs.Math.Option.{none, some}
 use Rattle.wire.specs.Codes.{reply_room}
 use Rattle.wire.specs.Messages.{read_of}
@@ -92,8 +92,7 @@ AcceptedIsWhole = (t : Table) (m buf : List ℕ) (o : Outcome) (left : List ℕ)
 -- its arrival number and offset are the answer
 pub record Goes (t : Table) (unit offset arrival : ℕ) (after : Table) : Type 0 where
   pub pick : Pick
-  pub found : pick.found ≡ true
-  pub next : Next t.live (may_go (unit_at t unit).aca unit) t.tasks (length t.tasks) pick
+  pub next : Next t.live (may_go (unit_at t unit).aca unit) t.tasks (length t.tasks) (Some pick)
   pub number : pick.task.arrival ≡ arrival
   pub offset_named : offset_of pick.task ≡ offset
   pub runs : after ≡ started t pick.at

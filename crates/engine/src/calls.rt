@@ -1,5 +1,6 @@
 // The five calls, and the part of a message that is its command block.
 ghost use Rattle.std.specs.Prelude.{◌≡◌, cond, ltb};
+ghost use Rattle.task.specs.Scan.{task_or_none};
 ghost use Rattle.engine.specs.Calls.{reply_path, heard_of, sender_of, may_go, rejected, may_finish, sent_sense, replied};
 ghost use Rattle.engine.specs.Steps.{step_of, chosen_by, judged_by};
 ghost use Rattle.engine.specs.Calls.{SetupContract, MessageContract, StartContract, FinishContract, TotalResetContract, CommandBlockContract};
@@ -14,9 +15,9 @@ use rules::facts::{Lookup, look_up, unit_alone};
 use sound::is_sound;
 use table::steps::{Alteration, Step, finish_step, finish_units};
 use table::{PATHS, Table};
-use task::RECORDS;
 use task::scan::Pick;
-use task::select::{Place, Selection};
+use task::select::Selection;
+use task::{RECORDS, Task};
 use wire::codes::{REPLY_ROOM, Refusal, Sense, StatusByte};
 
 // The path that a reply goes to, and 0 where the answer is none.
@@ -194,7 +195,7 @@ fn reject(n: Refusal) -> Verdict
 // What a start comes to, by what was asked of the table: whether it passed the check, the unit is attached and busy,
 // and the task that may go next there.
 #[tactic(auto, unfolding(crate::specs::Steps::chosen_by))]
-fn choose(checked: bool, attached: bool, busy: bool, p: Pick) -> Verdict
+fn choose(checked: bool, attached: bool, busy: bool, p: Option<Pick>) -> Verdict
     ensures { result ≡ chosen_by checked attached busy p }
 {
     if !checked {
@@ -206,9 +207,9 @@ fn choose(checked: bool, attached: bool, busy: bool, p: Pick) -> Verdict
     if busy {
         return reject(Refusal::UnitBusy);
     }
-    if !p.found {
+    let Some(p) = p else {
         return reject(Refusal::NothingToStart);
-    }
+    };
     let a = p.task;
     Verdict {
         answer: Ok(Answer::Started {
@@ -277,7 +278,14 @@ fn sent_sense(status: StatusByte, sense: Sense) -> Sense
 // What a finish comes to, by what was asked of the table: whether it passed the check, the running task of the arrival
 // number, and the id of its path; for a reply buffer of n bytes.
 #[tactic(auto, unfolding(crate::specs::Steps::judged_by))]
-fn judge(checked: bool, n: usize, status: StatusByte, sense: Sense, p: Pick, id: u32) -> Verdict
+fn judge(
+    checked: bool,
+    n: usize,
+    status: StatusByte,
+    sense: Sense,
+    p: Option<Pick>,
+    id: u32,
+) -> Verdict
     ensures { result ≡ judged_by checked n status sense p id }
 {
     if !checked {
@@ -289,9 +297,9 @@ fn judge(checked: bool, n: usize, status: StatusByte, sense: Sense, p: Pick, id:
     if !may_finish(status, sense) {
         return reject(Refusal::BadStatus);
     }
-    if !p.found {
+    let Some(p) = p else {
         return reject(Refusal::NotRunning);
-    }
+    };
     let a = p.task;
     Verdict {
         answer: Ok(Answer::Reply(Reply::Status {
@@ -302,6 +310,13 @@ fn judge(checked: bool, n: usize, status: StatusByte, sense: Sense, p: Pick, id:
         place: p.at,
         to: id,
     }
+}
+
+// The task that was picked, and a wiped one where there is none.
+fn task_or_none(p: Option<Pick>) -> Task
+    ensures { result ≡ task_or_none p }
+{
+    p.map_or(task::no_task(), |p| p.task)
 }
 
 // The device has finished the running task of an arrival number, after so many bytes: it ends, or with CONFIRM waits
@@ -325,7 +340,7 @@ pub fn finish(
     };
     let sound = is_sound(t);
     let p = t.pick(Selection::running_as(arrival));
-    let a = p.task;
+    let a = task_or_none(p);
     let sender = t.path_at(a.path as usize);
     let v = judge(sound, reply.len(), StatusByte(status), s, p, sender.id);
     let answer = v.answer;
@@ -359,7 +374,7 @@ pub fn total_reset(mut t: Table) -> Outcome
         let reset = table::paths::give_reset_attention(paths, t.count, true);
         t.paths = reset;
         let units = t.units;
-        let clear = table::units::clear_aca(units, Place::Anywhere);
+        let clear = table::units::clear_aca(units, None);
         t.units = clear;
         t = t.step(Step::End(Selection::ALL));
         answer = Ok(Answer::Reset);

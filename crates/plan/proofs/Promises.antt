@@ -1,14 +1,16 @@
 -- The kinds by QUEUE CNTL's numbers, computed. An order's answer is its return code, carried out or not; and which
 -- plans go by the other paths on the unit. Assumes nothing.
 use Prim.Native.Nat.{ℕ, zero, suc}
-use mathlib.Core.Path.{◌≡◌, refl}
+use mathlib.Core.Path.{◌≡◌, refl, ap}
 use mathlib.Core.Bool.{true, false}
 use mathlib.Core.List.{List}
 use native.Mathlib.Omega.{arith}
 use lib.Dec.{eqb}
 use Rattle.wire.specs.Codes
 use Rattle.reply.specs.declared.Reply.TheVariants as reply
-use Rattle.std.specs.Prelude.{Option}
+use Rattle.std.specs.Prelude.{Option, Some, None}
+use Rattle.std.proofs.lemmas.Option.{none-some, cond_some}
+use Rattle.task.specs.Tasks.{is_unconfirmed}
 use Rattle.task.specs.declared.scan.Pick.{Pick}
 use Rattle.wire.proofs.Table.{cond_ind}
 use Rattle.task.proofs.Ways.{never}
@@ -18,7 +20,7 @@ use Rattle.rules.specs.declared.facts.Lookup.{Lookup}
 use Rattle.rules.specs.declared.manage.Order.{Order}
 use Rattle.rules.specs.declared.manage.Order.TheVariants as order
 use Rattle.std.specs.Prelude.{Ok}
-use Rattle.plan.specs.Plans.{clears_set, goes_by_unit, order_plan, plan_of}
+use Rattle.plan.specs.Plans.{clears_set, goes_by_unit, order_plan, plan_of, awaited}
 use Rattle.plan.specs.Promises.{KindIsQueue}
 use Rattle.plan.specs.declared.Request.{Request}
 use Rattle.plan.specs.declared.Request.TheVariants.{Command, Manage, Confirm}
@@ -36,6 +38,11 @@ pub order_answer : (f : Facts) (others p tag : ℕ) (m : List ℕ) (o : Order) �
 unfolding order_plan
 order_answer f others p tag m o =
     cond_ind (λ (pl : Plan). pl.answer ≡ Ok (answer.Reply (reply.Response tag (order_code f m o)))) (eqb (order_code f m o).0 (Codes.done).0) (λ _. refl) (λ _. refl)
+
+-- the task that waits to be confirmed is the one that was picked, and waits
+pub awaited_is : (own : Option Pick) (w : Pick) → awaited own ≡ Some w → (own ≡ Some w) × (is_unconfirmed w.task.phase ≡ true)
+awaited_is None w e = absurd (none-some w e)
+awaited_is (Some p) w e = let r = cond_some (is_unconfirmed p.task.phase) p w e in (ap Some r.1, rw r.1 at r.0)
 
 -- CLEAR TASK SET alone looks at the other paths that have a task on the unit
 module _ (f : Facts) (own : Option Pick) (x y : ℕ) where

@@ -8,11 +8,17 @@ use mathlib.Core.Bool.{Bool, true, false, cond, not, ◌&&◌, ◌||◌}
 use mathlib.Core.Logic.{◌⊎◌, inl, inr}
 use native.Mathlib.Omega.{arith}
 use lib.Dec.{eqb, ltb}
+use Rattle.std.specs.Prelude.{Option, Some, None}
 use borrow.Author.Tests.{not-true, not-false, eq-eqb, ne_eqb, lt-ltb, le-ltb}
 
 pub either_way : (b : Bool) → (b ≡ true) ⊎ (b ≡ false)
 either_way true = inl refl
 either_way false = inr refl
+
+-- a fact about an option, by whether it has a value
+pub option_ind : {A : Type 0} (P : Option A → Type 0) (o : Option A) → (o ≡ None → P None) → ((x : A) → o ≡ Some x → P (Some x)) → P o
+option_ind P None n s = n refl
+option_ind P (Some x) n s = s x refl
 
 pub never : {b : Bool} → b ≡ true → b ≡ false → ⊥
 never h l = let z : ◌≡◌ {A = ℕ} 0 1 = cc in omega arith
