@@ -8,21 +8,20 @@ use lib.ListN.{length}
 use lib.Dec.{ltb}
 use native.Mathlib.Omega.{arith}
 use borrow.Author.Tests.{le-ltb}
+use Rattle.std.specs.Prelude.{Option, None, Some}
 use Rattle.task.specs.Map.{live_count}
 use Rattle.table.specs.declared.Table.{Table}
 use Rattle.input.specs.Events.{event_at}
 use Rattle.input.specs.declared.event.Event.{Event}
-use Rattle.input.specs.declared.event.Next.{Next}
-use Rattle.input.specs.declared.event.Next.TheVariants.{Is, Bad}
 use Rattle.input.proofs.Promises.{events_move_on}
 use Rattle.transcript.specs.Lines.{line_of, end_ok}
 use Rattle.transcript.specs.Text.{called, by_event, text_from}
 
 -- two ways to go on that agree on an event agree
-by_event_law : (x : Next) (f g : Event → ℕ → List ℕ) → ((e : Event) (next : ℕ) → x ≡ Is e next → f e next ≡ g e next) → by_event x f ≡ by_event x g
+by_event_law : (x : Option (Event × ℕ)) (f g : Event → ℕ → List ℕ) → ((e : Event) (next : ℕ) → x ≡ Some (e, next) → f e next ≡ g e next) → by_event x f ≡ by_event x g
 unfolding by_event
-by_event_law Bad f g k = refl
-by_event_law (Is e next) f g k = k e next refl
+by_event_law None f g k = refl
+by_event_law (Some (e, next)) f g k = k e next refl
 
 -- one more event that may follow changes nothing, where there is one for each byte left
 pub one_more :

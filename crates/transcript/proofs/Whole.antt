@@ -1,18 +1,18 @@
 -- Every line fits its 64 bytes, so what is written of it is the whole line, and the whole line is left in a buffer of
 -- 64 bytes or more. Assumes nothing.
 use Rattle.std.specs.Prelude.{Result, Ok, Err}
-use Prim.Native.Nat.{ℕ, zero, suc, ◌+◌, ◌/◌, ◌≤◌, ◌<◌, zero-le}
-use mathlib.Core.Path.{◌≡◌, refl, sym, subst, ◌∙◌}
-use mathlib.Core.Bool.{Bool, true, false, cond}
-use mathlib.Core.List.{List, [], ◌∷◌, ◌++◌, append-nil}
-use lib.ListN.{length, take, drop, set, replicate, length-set, length-append}
-use lib.Seq.{append_snoc, take-suc-set, take-append_seam}
-use lib.Dec.{ltb}
-use native.Mathlib.Nat.{add-zero, zero-add}
-use native.Mathlib.Numerals.{add-one}
-use native.Mathlib.Omega.{arith}
-use borrow.Author.Tests.{lt-ltb, le-ltb}
+use Rattle.wire.specs.Codes
 use Rattle.wire.specs.declared.codes.Refusal.{Refusal}
+use Prim.Native.Nat.{ℕ, zero, suc, ◌/◌, ◌≤◌, zero-le}
+use mathlib.Core.Path.{◌≡◌, refl}
+use mathlib.Core.List.{List, []}
+use lib.ListN.{length, drop, length-append}
+use lib.Seq.{take-append_seam}
+use Rattle.std.specs.Prelude.{Option, None, Some}
+use Rattle.std.proofs.lemmas.List.{take_all}
+use lib.Dec.{ltb}
+use native.Mathlib.Omega.{arith}
+use borrow.Author.Tests.{le-ltb}
 use Rattle.task.specs.Map.{live_count}
 use Rattle.wire.proofs.Table.{cond_ind}
 use Rattle.plan.specs.declared.Answer.{Answer}
@@ -20,37 +20,17 @@ use Rattle.reply.specs.declared.Reply.{Reply}
 use Rattle.reply.specs.declared.Reply.TheVariants.{Response, Status, Invalid}
 use Rattle.plan.specs.declared.Answer.TheVariants as answer
 use Rattle.plan.specs.declared.Answer.TheVariants.{Ready, Accepted, Started, Confirmed, Restarted, Reset}
-use Rattle.transcript.specs.Lines.{empty_line, pushed, push_all, decimal_in, reply_text, answer_text, line_of, handed_of, handed_in, Handed}
-use Rattle.transcript.specs.Playing.{turned, turn_text, step_of, line_left, Advances, last_text, last_line}
+use Rattle.transcript.specs.Lines.{push_all, decimal_in, reply_text, answer_text, line_of, handed_of, handed_in, Handed}
+use Rattle.transcript.specs.Playing.{turned, line_told, turn_text, step_of, line_left, Advances, last_text, last_line}
 use Rattle.transcript.specs.Promises.{Fits, Leaves}
-use Rattle.transcript.specs.declared.line.Line.{Line}
 use Rattle.transcript.specs.declared.play.State.{State}
 use Rattle.transcript.specs.declared.play.State.TheVariants as state
 use Rattle.transcript.specs.declared.play.Player.{Player}
 use Rattle.transcript.specs.declared.play.Step.{Step}
 
--- a byte put into a line that has room for it
-put_one : (bytes : List ℕ) (len b : ℕ) → len < 64 → pushed (record { bytes = bytes; len = len }) b ≡ record { bytes = set bytes len b; len = len + 1 }
-unfolding pushed
-put_one bytes len b h = rw (lt-ltb len 64 h)
-
--- n bytes of a line stand once bs is put, and they are the text
-abbrev Put : Line → List ℕ → ℕ → List ℕ → Type 0
-Put l bs n text = ((push_all l bs).len ≡ n) × (take n (push_all l bs).bytes ≡ text)
-
-put : (bytes : List ℕ) (len : ℕ) (bs : List ℕ) → length bytes ≡ 64 → len + length bs ≤ 64 → Put (record { bytes = bytes; len = len }) bs (len + length bs) (take len bytes ++ bs)
-unfolding push_all
-put bytes len [] h l = (simp add-zero, simp (add-zero, append-nil))
-put bytes len (b ∷ bs) h l =
-    let e : len + suc (length bs) ≡ len + 1 + length bs = omega arith in
-    let r = put (set bytes len b) (len + 1) bs (length-set bytes len b ∙ h) (omega arith) in
-    subst (λ (x : Line). Put x bs (len + suc (length bs)) (take len bytes ++ b ∷ bs)) (sym (put_one bytes len b (omega arith)))
-    (r.0 ∙ sym e, rw e (r.1 ∙ rw (add-one len, take-suc-set bytes len b (omega arith)) (append_snoc (take len bytes) b bs)))
-
 pub whole : (bs : List ℕ) → length bs ≤ 64 → Fits bs
-whole bs h =
-    let r = put (replicate 64 0) 0 bs refl (omega arith) in
-    (simp zero-add at r.0, simp zero-add at r.1)
+unfolding push_all
+whole bs h = take_all 64 bs h
 
 decimal_short : (k n : ℕ) → length (decimal_in k n) ≤ k
 unfolding decimal_in
@@ -74,7 +54,7 @@ text_short (Ok (Started offset arrival)) = omega (arith, decimal_short 20 arriva
 text_short (Ok (Confirmed n)) = omega (arith, decimal_short 20 n)
 text_short (Ok (Restarted n)) = omega (arith, decimal_short 20 n)
 text_short (Ok Reset) = omega arith
-text_short (Err n) = omega (arith, decimal_short 20 n.0)
+text_short (Err n) = omega (arith, decimal_short 20 (Codes.refusal_number n))
 
 line_short : (n : ℕ) (a : Result Answer Refusal) → length (line_of n a) ≤ 64
 line_short n a = simp length-append (omega (arith, decimal_short 20 n, text_short a))
@@ -98,24 +78,21 @@ last_whole p = whole (last_text p) (last_short p)
 -- ---- what is left in a lent buffer of 64 bytes or more
 
 module _ (buf : List ℕ) (room : 64 ≤ length buf) where
-  text_left : (bs : List ℕ) → length bs ≤ 64 → Leaves bs (handed_of (push_all empty_line bs) buf) (handed_in (push_all empty_line bs) buf)
+  text_left : (bs : List ℕ) → length bs ≤ 64 → Leaves bs (handed_of (push_all [] bs) buf) (handed_in (push_all [] bs) buf)
   unfolding handed_of handed_in
-  text_left bs h =
-      let w = whole bs h in
-      simp (w.0, w.1, le-ltb _ _ room, le-ltb _ _ h) (refl, take-append_seam bs (drop (length bs) buf))
+  text_left bs h = rw (whole bs h, le-ltb _ _ room) (refl, take-append_seam bs (drop (length bs) buf))
 
-  played_left :
-      (played : Bool) (bs : List ℕ) → length bs ≤ 64
-      → Leaves (cond played bs []) (cond played (handed_of (push_all empty_line bs) buf) 0) (cond played (handed_in (push_all empty_line bs) buf) buf)
-  played_left true bs h = text_left bs h
-  played_left false bs h = (refl, refl)
+  told_short : (n : ℕ) (a : Option (Result Answer Refusal)) → length (line_told n a) ≤ 64
+  told_short n None = zero-le
+  told_short n (Some a) = line_short n a
 
   pub advance_leaves :
       (p : Player) (s : List ℕ) (r : Step) (left : List ℕ) → Advances p s buf r left
       → (r.player ≡ (turned p s).player) × Leaves (turn_text (turned p s)) r.wrote left
   unfolding step_of line_left
   advance_leaves p s r left a =
-      rw (a.step, a.buffer, le-ltb _ _ room) (refl, played_left (turned p s).played _ (line_short (turned p s).player.number (turned p s).answer))
+      rw (a.step, a.buffer, le-ltb _ _ room)
+      (refl, text_left (turn_text (turned p s)) (told_short (turned p s).player.number (turned p s).answer))
 
   pub close_leaves : (p : Player) (wrote : ℕ) (left : List ℕ) → Handed (last_line p) buf wrote left → Leaves (last_text p) wrote left
   close_leaves p wrote left h = rw (h.wrote, h.buffer) (text_left (last_text p) (last_short p))

@@ -1,18 +1,17 @@
 -- The lines of a transcript: the event's number in decimal, then a word and its numbers. Tags are four upper-case hex
 -- digits, codes and status fields two.
 use Rattle.std.specs.Prelude.{Result, Ok, Err}
-use Rattle.std.specs.Prelude.{ℕ, zero, suc, ◌+◌, ◌/◌, ◌%◌, List, [], ◌∷◌, ◌++◌, ◌≡◌, cond, ◌||◌, length, set, replicate, take, drop, ltb}
-use Prim.Native.Char.{code}
-use Prim.Native.String.{String, [] as ended, ◌∷◌ as ◌then◌}
 use Rattle.wire.specs.Codes
 use Rattle.wire.specs.declared.codes.Refusal.{Refusal}
+use Rattle.std.specs.Prelude.{ℕ, zero, suc, ◌+◌, ◌-◌, ◌/◌, ◌%◌, List, [], ◌∷◌, ◌++◌, ◌≡◌, cond, length, take, drop, ltb}
+use Prim.Native.Char.{code}
+use Prim.Native.String.{String, [] as ended, ◌∷◌ as ◌then◌}
 use Rattle.wire.specs.declared.codes.Sense.{Sense}
 use Rattle.reply.specs.declared.Reply.{Reply}
 use Rattle.reply.specs.declared.Reply.TheVariants.{Response, Status, Invalid}
 use Rattle.plan.specs.declared.Answer.{Answer}
 use Rattle.plan.specs.declared.Answer.TheVariants as answer
 use Rattle.plan.specs.declared.Answer.TheVariants.{Ready, Accepted, Started, Confirmed, Restarted, Reset}
-use Rattle.transcript.specs.declared.line.Line.{Line}
 
 -- ---- words
 
@@ -122,26 +121,20 @@ end_bad = end_word ++ (bad_word ++ (newline ∷ []))
 abbrev pub end_refused : ℕ → List ℕ
 end_refused n = end_word ++ (refused_word ++ (decimal_of n ++ (newline ∷ [])))
 
--- ---- a line in the making: 64 bytes, of which the first `len` are written; a full line takes no more
+-- ---- a line in the making has 64 bytes at most
 
-abbrev pub empty_line : Line
-empty_line = record { bytes = replicate 64 0; len = 0 }
-
-unfoldable pub pushed : Line → ℕ → Line
-pushed l b = cond (ltb l.len 64) (record { bytes = set l.bytes l.len b; len = l.len + 1 }) l
-
-unfoldable pub push_all : Line → List ℕ → Line
-push_all l [] = l
-push_all l (b ∷ bs) = push_all (pushed l b) bs
+-- bytes put behind those of a line, as many as there is room for: a full line takes no more
+unfoldable pub push_all : List ℕ → List ℕ → List ℕ
+push_all l bs = l ++ take (64 - length l) bs
 
 -- a line handed over into a lent buffer: its bytes at the front, the rest as it was; a buffer under 64 bytes gets
 -- nothing
-unfoldable pub handed_of : Line → List ℕ → ℕ
-handed_of l buf = cond (ltb (length buf) 64 || ltb 64 l.len) 0 l.len
+unfoldable pub handed_of : List ℕ → List ℕ → ℕ
+handed_of l buf = cond (ltb (length buf) 64) 0 (length l)
 
-unfoldable pub handed_in : Line → List ℕ → List ℕ
-handed_in l buf = cond (ltb (length buf) 64 || ltb 64 l.len) buf (take l.len l.bytes ++ drop l.len buf)
+unfoldable pub handed_in : List ℕ → List ℕ → List ℕ
+handed_in l buf = cond (ltb (length buf) 64) buf (l ++ drop (length l) buf)
 
-pub record Handed (l : Line) (buf : List ℕ) (n : ℕ) (left : List ℕ) : Type 0 where
+pub record Handed (l buf : List ℕ) (n : ℕ) (left : List ℕ) : Type 0 where
   pub wrote : n ≡ handed_of l buf
   pub buffer : left ≡ handed_in l buf

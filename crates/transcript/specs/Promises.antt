@@ -1,10 +1,10 @@
 -- What is promised of the transcript beside the contracts. Each is proved in proofs/Promises.antt.
 use Rattle.std.specs.Prelude.{Result}
-use Rattle.std.specs.Prelude.{ℕ, suc, ◌+◌, ◌≤◌, ◌≡◌, List, length, take}
 use Rattle.wire.specs.declared.codes.Refusal.{Refusal}
+use Rattle.std.specs.Prelude.{ℕ, suc, ◌+◌, ◌≤◌, ◌≡◌, List, [], length, take}
 use Rattle.table.specs.declared.Table.{Table}
 use Rattle.plan.specs.declared.Answer.{Answer}
-use Rattle.transcript.specs.Lines.{empty_line, push_all, line_of, Handed}
+use Rattle.transcript.specs.Lines.{push_all, line_of, Handed}
 use Rattle.transcript.specs.Text.{text_from, text_of}
 use Rattle.transcript.specs.Playing.{turned, turn_text, Advances, last_text, last_line, printed}
 use Rattle.transcript.specs.declared.play.Player.{Player}
@@ -24,7 +24,7 @@ PrintsTheText = (s : List ℕ) → printed s ≡ text_of s
 
 -- a line fits its 64 bytes: what is written of it is the whole line
 abbrev pub Fits : List ℕ → Type 0
-Fits bs = ((push_all empty_line bs).len ≡ length bs) × (take (length bs) (push_all empty_line bs).bytes ≡ bs)
+Fits bs = push_all [] bs ≡ bs
 
 abbrev pub LinesAreWhole : Type 0
 LinesAreWhole = (n : ℕ) (a : Result Answer Refusal) → Fits (line_of n a)

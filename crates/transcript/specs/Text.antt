@@ -1,5 +1,5 @@
 -- The whole text that an input is played to: a line for each event, then the last line.
-use Rattle.std.specs.Prelude.{ℕ, zero, suc, ◌+◌, ◌-◌, List, [], ◌++◌, cond, ◌||◌, length, take, drop, ltb, eqb}
+use Rattle.std.specs.Prelude.{ℕ, zero, suc, ◌+◌, ◌-◌, Option, None, Some, List, [], ◌++◌, cond, ◌||◌, length, take, drop, ltb, eqb}
 use Rattle.wire.specs.Codes
 use Rattle.wire.specs.declared.codes.Refusal.{Refusal}
 use Rattle.task.specs.Map.{live_count}
@@ -11,8 +11,6 @@ use Rattle.input.specs.Header.{Heading, malformed, heading, heading_of}
 use Rattle.input.specs.Events.{event_at}
 use Rattle.input.specs.declared.event.Event.{Event}
 use Rattle.input.specs.declared.event.Event.TheVariants.{Message, Start, Finish, TotalReset}
-use Rattle.input.specs.declared.event.Next.{Next}
-use Rattle.input.specs.declared.event.Next.TheVariants.{Is, Bad}
 use Rattle.transcript.specs.Lines.{line_of, end_ok, end_bad, end_refused}
 
 -- the longest input
@@ -35,9 +33,9 @@ called t s (Finish arrival status key code qualifier transferred) = finish_of t 
 called t s TotalReset = total_reset_of t
 
 -- by the event at a place: its line and the text after it; `end bad` where it is malformed
-unfoldable pub by_event : Next → (Event → ℕ → List ℕ) → List ℕ
-by_event Bad f = end_of Codes.malformed
-by_event (Is e next) f = f e next
+unfoldable pub by_event : Option (Event × ℕ) → (Event → ℕ → List ℕ) → List ℕ
+by_event None f = end_of Codes.malformed
+by_event (Some (e, next)) f = f e next
 
 -- the text from a place on, after n events; `left` bounds the events that can follow: each takes a byte at least
 unfoldable pub text_from : ℕ → Table → ℕ → List ℕ → ℕ → List ℕ

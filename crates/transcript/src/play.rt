@@ -2,17 +2,17 @@
 ghost use Rattle.std.specs.Prelude.{◌≡◌};
 ghost use Rattle.transcript.specs.Text.{part_of, called};
 ghost use Rattle.transcript.specs.Lines.{Handed};
-ghost use Rattle.transcript.specs.Playing.{standing, standing_at, is_playing, opened, idled, turned, Advances, last_line};
+ghost use Rattle.transcript.specs.Playing.{standing, standing_at, opened, idled, turned, Advances, last_line};
 
 use crate::line::{LINE_ROOM, Line};
 use engine::Outcome;
-use input::event::{Event, Next};
+use input::event::Event;
 use plan::Answer;
 use table::Table;
 use wire::codes::{REPLY_ROOM, Refusal};
 
 // Where a player stands: in an input that goes on, at its end, at something malformed, or at a refused setup.
-#[derive(Clone, Copy)]
+#[derive(Clone, Copy, PartialEq, Eq)]
 pub enum State {
     Playing,
     Done,
@@ -51,26 +51,22 @@ fn stopped(table: Table, state: State) -> Player
 }
 
 // A player on an input: its header read and its setup made.
+#[tactic(auto, unfolding(crate::specs::Playing::opened, crate::specs::Playing::by_header))]
 pub fn open(s: &[u8]) -> Player
     ensures { result ≡ opened s.now }
 {
     if s.len() > LONGEST {
         return stopped(Table::zero(), State::Bad);
     }
-    let h = input::header::read_header(s);
-    if !h.ok {
+    let Some(h) = input::header::read_header(s) else {
         return stopped(Table::zero(), State::Bad);
-    }
-    let ids = h.ids;
-    let count = h.count;
-    let o = engine::calls::setup(&ids[..count], h.mask, h.first);
-    let table = o.table;
-    let answer = o.answer;
-    if answer.is_err() {
-        return stopped(table, State::Refused);
+    };
+    let o = engine::calls::setup(h.ids.as_slice(), h.mask, h.first);
+    if o.answer.is_err() {
+        return stopped(o.table, State::Refused);
     }
     Player {
-        table,
+        table: o.table,
         at: h.next,
         number: 0,
         state: State::Playing,
@@ -78,6 +74,7 @@ pub fn open(s: &[u8]) -> Player
 }
 
 // An event, called on the table.
+#[tactic(auto, unfolding(crate::specs::Text::called))]
 fn call(t: Table, s: &[u8], e: Event) -> Outcome
     ensures { result ≡ called t s.now e }
 {
@@ -111,71 +108,46 @@ fn call(t: Table, s: &[u8], e: Event) -> Outcome
 }
 
 // The part of the input from one place up to another, and an empty one where that is none.
+#[tactic(auto, unfolding(crate::specs::Text::part_of))]
 fn part(s: &[u8], from: usize, until: usize) -> &[u8]
     ensures { result.now ≡ part_of s.now from until }
 {
-    if from > until {
-        return &s[..0];
-    }
-    if until > s.len() {
-        return &s[..0];
-    }
-    &s[from..until]
+    s.get(from..until).unwrap_or(&[])
 }
 
-fn is_playing(state: State) -> bool
-    ensures { result ≡ is_playing state }
-{
-    match state {
-        State::Playing => true,
-        State::Done => false,
-        State::Bad => false,
-        State::Refused => false,
-    }
-}
-
-// One event played: the player after it with the answer, or where it stopped.
+// The player after a turn, and the answer of the event that was played, if one was.
 #[derive(Clone, Copy)]
 pub struct Turn {
     pub player: Player,
-    pub answer: Result<Answer, Refusal>,
-    pub played: bool,
+    pub answer: Option<Result<Answer, Refusal>>,
 }
 
 // A player that plays takes the next event; at the end of the input it is done, at a malformed event bad.
+#[tactic(auto, unfolding(crate::specs::Playing::turned, crate::specs::Playing::by_next))]
 fn take_turn(p: Player, s: &[u8]) -> Turn
     ensures { result ≡ turned p s.now }
 {
-    let state = p.state;
-    if !is_playing(state) {
-        return idle(p, state);
+    if p.state != State::Playing {
+        return idle(p, p.state);
     }
-    let at = p.at;
-    if at >= s.len() {
+    if p.at >= s.len() {
         return idle(p, State::Done);
     }
-    if p.number == 0xffff_ffff_ffff_ffff {
+    if p.number == u64::MAX {
         return idle(p, State::Bad);
     }
-    match input::event::event_at(s, at) {
-        Next::Bad => idle(p, State::Bad),
-        Next::Is(e, next) => {
-            let t = p.table;
-            let o = call(t, s, e);
-            let table = o.table;
-            let answer = o.answer;
-            let number = p.number + 1;
-            Turn {
-                player: Player {
-                    table,
-                    at: next,
-                    number,
-                    state: State::Playing,
-                },
-                answer,
-                played: true,
-            }
-        }
+    let Some((e, next)) = input::event::event_at(s, p.at) else {
+        return idle(p, State::Bad);
+    };
+    let o = call(p.table, s, e);
+    Turn {
+        player: Player {
+            table: o.table,
+            at: next,
+            number: p.number + 1,
+            state: State::Playing,
+        },
+        answer: Some(o.answer),
     }
 }
 
@@ -183,21 +155,15 @@ fn take_turn(p: Player, s: &[u8]) -> Turn
 fn idle(p: Player, state: State) -> Turn
     ensures { result ≡ idled (standing_at p state) }
 {
-    let table = p.table;
     Turn {
-        player: Player {
-            table,
-            at: p.at,
-            number: p.number,
-            state,
-        },
-        answer: Ok(Answer::Ready),
-        played: false,
+        player: Player { state, ..p },
+        answer: None,
     }
 }
 
 // One event in, one line out; nothing is written where there is no event, or where the buffer is under 64 bytes, and
 // then nothing is played either.
+#[tactic(auto, using(crate::proofs::Lines::nothing_counted, crate::proofs::Lines::nothing_copied), unfolding(crate::specs::Playing::step_of, crate::specs::Playing::line_left))]
 pub fn advance(p: Player, s: &[u8], line: &mut [u8]) -> Step
     ensures { Advances p s.now line.old result line.new }
 {
@@ -207,31 +173,25 @@ pub fn advance(p: Player, s: &[u8], line: &mut [u8]) -> Step
             wrote: 0,
         };
     }
-    let t = take_turn(p, s);
-    let next = t.player;
-    if !t.played {
-        return Step {
-            player: next,
-            wrote: 0,
-        };
-    }
-    let answer = t.answer;
-    let wrote = crate::line::hand_over(crate::line::event_line(next.number, answer), line);
+    let Turn { player, answer } = take_turn(p, s);
+    let Some(answer) = answer else {
+        return Step { player, wrote: 0 };
+    };
+    let text = crate::line::event_line(player.number, answer);
     Step {
-        player: next,
-        wrote,
+        player,
+        wrote: crate::line::hand_over(&text, line),
     }
 }
 
 // The last line, for where the player stands; a player that still plays has none.
+#[tactic(auto, using(crate::proofs::Lines::push_nothing), unfolding(crate::specs::Playing::last_text))]
 fn last_line(p: Player) -> Line
-    ensures { result ≡ last_line p }
+    ensures { result.items ≡ last_line p }
 {
-    let state = p.state;
-    let t = p.table;
-    match state {
-        State::Playing => crate::line::empty(),
-        State::Done => crate::line::ok_line(task::map::live_count(t.live)),
+    match p.state {
+        State::Playing => Line::new(),
+        State::Done => crate::line::ok_line(task::map::live_count(p.table.live)),
         State::Bad => crate::line::bad_line(),
         State::Refused => crate::line::refused_line(),
     }
@@ -241,5 +201,5 @@ fn last_line(p: Player) -> Line
 pub fn close(p: Player, line: &mut [u8]) -> usize
     ensures { Handed (last_line p) line.old result line.new }
 {
-    crate::line::hand_over(last_line(p), line)
+    crate::line::hand_over(&last_line(p), line)
 }

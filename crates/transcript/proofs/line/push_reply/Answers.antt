@@ -1,16 +1,9 @@
--- `line::push_reply` meets its contract. Assumes nothing.
-use Rattle.transcript.specs.Lines.{reply_text}
-use Rattle.transcript.proofs.Lines.{reply_cases}
+-- `transcript::line::push_reply` meets its contract. Assumes nothing.
+use Rattle.std.proofs.Common.{◌∙◌}
+use Rattle.transcript.specs.Lines.{invalid_word, hex_word, reply_text}
+use Rattle.transcript.proofs.Lines.{push_append}
 use Rattle.transcript.proofs.line.push_reply.Goals as goal
-
-pub returns-in-Response : goal.returns-in-Response
-unfolding reply_text
-returns-in-Response c = search reply_cases
-
-pub returns-in-Status : goal.returns-in-Status
-unfolding reply_text
-returns-in-Status c = search reply_cases
 
 pub returns-in-Invalid : goal.returns-in-Invalid
 unfolding reply_text
-returns-in-Invalid c = search reply_cases
+returns-in-Invalid c = rw c.in-Invalid.is (c.push_tag.ensures ∙ rw c.push_word.ensures (push_append _ invalid_word (hex_word c.in-Invalid.tag)))

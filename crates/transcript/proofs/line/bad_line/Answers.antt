@@ -1,6 +1,0 @@
--- `transcript::line::bad_line` meets its contract. Assumes nothing.
-use Rattle.transcript.proofs.Lines.{line_cases}
-use Rattle.transcript.proofs.line.bad_line.Goals as goal
-
-pub returns : goal.returns
-returns c = search line_cases

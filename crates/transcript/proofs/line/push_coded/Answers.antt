@@ -1,6 +1,0 @@
--- `transcript::line::push_coded` meets its contract. Assumes nothing.
-use Rattle.transcript.proofs.Lines.{three_texts}
-use Rattle.transcript.proofs.line.push_coded.Goals as goal
-
-pub returns : goal.returns
-returns c = search three_texts
