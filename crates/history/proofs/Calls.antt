@@ -18,6 +18,8 @@ use Rattle.wire.specs.declared.codes.Refusal.{Refusal}
 use Rattle.wire.specs.declared.codes.StatusByte.{StatusByte}
 use Rattle.wire.specs.declared.codes.Sense.{Sense}
 use Rattle.wire.specs.declared.message.Flags.{Flags}
+use Rattle.std.specs.Prelude.{Some}
+use Rattle.task.specs.declared.scan.Pick.{Pick}
 use Rattle.task.specs.Tasks.{is_running, has_confirm, runs, awaits, restarts}
 use Rattle.task.specs.Selections.{picks, every_task, named, numbered_as, running_as}
 use Rattle.wire.specs.declared.codes.Kind.{Kind}
@@ -47,7 +49,8 @@ use Rattle.rules.specs.declared.change.SenderChange.TheVariants.{Stays, SetMark,
 use Rattle.rules.specs.declared.command.Ruling.{Ruling}
 use Rattle.rules.specs.declared.command.Ruling.TheVariants.{Refuse, Respond, Report, Invalid, Accept}
 use Rattle.rules.specs.declared.manage.Order.{Order}
-use Rattle.plan.specs.Plans.{asking, asked_in, sequel_of, report_change, ruled, order_plan, is_awaited, confirm_plan, sender_after, paths_after, units_after}
+use Rattle.plan.specs.Plans.{asking, asked_in, sequel_of, report_change, ruled, order_plan, confirm_plan, sender_after, paths_after, units_after, awaited}
+use Rattle.plan.proofs.Promises.{awaited_is}
 use Rattle.engine.specs.Calls.{refused, with_parts, with_records, carried_out, plan_at, message_of, choice_on, start_of, finish_of, total_reset_of}
 use Rattle.plan.specs.declared.Request.{Request}
 use Rattle.plan.specs.declared.Request.TheVariants.{Command, Manage, Confirm}
@@ -281,17 +284,17 @@ module _ (t : Table) (g : Good t) where
       → let pl : Plan = confirm_plan (pick_of t (named p tag)) p tag m offset complete in Done (confirm_effect p tag offset complete pl.answer) t (carried_out t pl)
   unfolding carried_out with_records
   done_confirm p tag m offset complete =
-      let found : is_awaited (pick_of t (named p tag)) ≡ true → Found t (named p tag) _ _ = λ w. pick_at t (named p tag) g.shaped (both _ _ w).0 in
+      let found : (w : Pick) → awaited (pick_of t (named p tag)) ≡ Some w → Found t (named p tag) w.at w.task = λ w e. pick_at t (named p tag) g.shaped (awaited_is _ w e).0 in
       each_confirm (λ (pl : Plan). Done (confirm_effect p tag offset complete pl.answer) t (carried_out t pl)) (pick_of t (named p tag)) p tag m offset complete
-      (done_nothing t) (done_nothing t) (λ w c. rw c (done_confirmed p tag _ _ (found w))) (λ w c _. rw c (done_restarted p tag _ _ (found w) offset))
+      (done_nothing t) (done_nothing t) (λ w e c. rw c (done_confirmed p tag _ _ (found w e))) (λ w e c _. rw c (done_restarted p tag _ _ (found w e) offset))
 
   -- ---- start, finish, total reset
 
-  done_started : (s : Selection) → (pick_of t s).found ≡ true → Done (Starts (pick_of t s).task.arrival) t (started t (pick_of t s).at)
+  done_started : (s : Selection) (p : Pick) → pick_of t s ≡ Some p → Done (Starts p.task.arrival) t (started t p.at)
   unfolding fate_of
-  done_started s found =
-      let k : ℕ = (pick_of t s).at in
-      let a : Task = (pick_of t s).task in
+  done_started s p found =
+      let k : ℕ = p.at in
+      let a : Task = p.task in
       let f = pick_at t s g.shaped found in
       rw (live_at t k f.here).1
       (done_altered t (Starts a.arrival) k a (runs a) g f.below f.here refl (rw (eq-eqb a.arrival a.arrival refl))
@@ -413,14 +416,14 @@ module _ (ids : List ℕ) (t : Table) (g : Good t) (listed : t.count ≡ length 
 
   pub start_done : (unit : ℕ) → DoneBy (Start unit) (start_of t unit)
   unfolding choice_on
-  start_done unit = each_start (DoneBy (Start unit)) t (stops (Start unit)) unit (λ _ _ found. done_started t g _ found)
+  start_done unit = each_start (DoneBy (Start unit)) t (stops (Start unit)) unit (λ _ _ p found. done_started t g _ p found)
 
   pub finish_done : (arrival : ℕ) (status : StatusByte) (sense : Sense) (transferred : ℕ) (buf : List ℕ)
       → DoneBy (Finish arrival status sense transferred buf) (finish_of t arrival status sense transferred (length buf))
   finish_done arrival status sense transferred buf =
       let ev : Event = Finish arrival status sense transferred buf in
       each_finish (DoneBy ev) t (stops ev) arrival status sense transferred (length buf)
-      (λ found. done_finished t g arrival transferred _ _ (pick_at t (running_as arrival) g.shaped found) _)
+      (λ _ found. done_finished t g arrival transferred _ _ (pick_at t (running_as arrival) g.shaped found) _)
 
   pub reset_done : DoneBy TotalReset (total_reset_of t)
   reset_done = each_reset (DoneBy TotalReset) t (stops TotalReset) (done_reset t g)

@@ -44,7 +44,8 @@ use Rattle.rules.specs.declared.command.Ruling.{Ruling}
 use Rattle.rules.specs.declared.command.Ruling.TheVariants.{Refuse, Respond, Report, Invalid, Accept}
 use Rattle.rules.specs.declared.manage.Order.{Order}
 use Rattle.rules.specs.declared.manage.Order.TheVariants.{AbortTask, AbortTaskSet, ClearTaskSet, ClearAca, UnitReset, TargetReset}
-use Rattle.plan.specs.Plans.{asking, asked_in, reply_of, ruled, order_plan, units_after}
+use Rattle.plan.specs.Plans.{asking, asked_in, reply_of, ruled, order_plan, units_after, asked_of}
+use Rattle.plan.proofs.Promises.{awaited_is}
 use Rattle.plan.specs.declared.Request.{Request}
 use Rattle.plan.specs.declared.Request.TheVariants.{Command, Manage, Confirm}
 use Rattle.plan.specs.declared.Plan.{Plan}
@@ -244,12 +245,12 @@ module _ (t : Table) (g : Good t) (p unit : ℕ) (owned : aca_at t.units unit �
       (λ e. ended_kept (order_change others o) (ends_of q o) (order_owned m q o (first_false _ _ (sym (order_said t g p unit m q tag o) ∙ free) e) (eqb-true _ _ e))) (λ _. same)
   plan_kept m q tag (Confirm offset complete) free =
       let s : Selection = named q tag in
-      each_confirm (λ (pl : Plan). Kept (carried_out t pl)) (pick_of t s) q tag m offset complete same same (λ _ _. ended_kept change.Nothing _ owned)
-      (λ w _ _.
-      let f = pick_at t s g.shaped (both (pick_of t s).found _ w).0 in
-      let k : ℕ = (pick_of t s).at in
+      each_confirm (λ (pl : Plan). Kept (carried_out t pl)) (pick_of t s) q tag m offset complete same same (λ _ _ _. ended_kept change.Nothing _ owned)
+      (λ w e _ _.
+      let f = pick_at t s g.shaped (awaited_is _ w e).0 in
+      let k : ℕ = w.at in
       keeps _ (ap (λ (l : List held.Unit). aca_at l unit) (only_units (altered_only t k _)) ∙ owned)
-      (λ i l. ran_altered t g.shaped i l k _ refl (f.below, (pick_of t s).task, f.here)))
+      (λ i l. ran_altered t g.shaped i l k _ refl (f.below, w.task, f.here)))
 
   -- ---- a start: under the ACA only the ACA task may go
 
@@ -267,9 +268,9 @@ module _ (t : Table) (g : Good t) (p unit : ℕ) (owned : aca_at t.units unit �
   unfolding choice_on
   start_kept v =
       each_start (λ (o : Outcome). Kept o.table) t (λ _. same) v
-      (λ _ _ found.
-      let k : ℕ = (choice_on t v).at in
-      let c : Task = (choice_on t v).task in
+      (λ _ _ next found.
+      let k : ℕ = next.at in
+      let c : Task = next.task in
       let f = pick_at t _ g.shaped found in
       let goes = goes_on v k c f in
       let now : at (started t k) k ≡ some (runs c) = altered_at_law t k _ g.shaped f.below f.here ∙ ap (λ (x : Task). some (runs x)) (live_at t k f.here).1 in (
@@ -289,9 +290,9 @@ module _ (t : Table) (g : Good t) (p unit : ℕ) (owned : aca_at t.units unit �
   unfolding choice_on
   start_takes offset arrival o e h =
       each_start (λ (x : Outcome). x.answer ≡ Ok (answer.Started offset arrival) → (i : ℕ) × (a : Task) × AcaTask t p unit i a × (a.arrival ≡ arrival)) t (λ _. unlike refl) unit
-      (λ _ _ found y.
-      let k : ℕ = (choice_on t unit).at in
-      let c : Task = (choice_on t unit).task in
+      (λ _ _ next found y.
+      let k : ℕ = next.at in
+      let c : Task = next.task in
       let f = pick_at t _ g.shaped found in
       let goes = goes_on unit k c f in
       let mine : aca_at t.units c.unit ≡ Some c.path = g.sound.aca_owned k c f.below f.here (goes.1 refl) in
@@ -304,10 +305,10 @@ module _ (t : Table) (g : Good t) (p unit : ℕ) (owned : aca_at t.units unit �
   finish_kept : (arrival : ℕ) (status : StatusByte) (s : Sense) (transferred n : ℕ) → Kept (finish_of t arrival status s transferred n).table
   finish_kept arrival status s transferred n =
       each_finish (λ (o : Outcome). Kept o.table) t (λ _. same) arrival status s transferred n
-      (λ found.
+      (λ ran found.
       let w : Selection = running_as arrival in
-      let k : ℕ = (pick_of t w).at in
-      let c : Task = (pick_of t w).task in
+      let k : ℕ = ran.at in
+      let c : Task = ran.task in
       let f = pick_at t w g.shaped found in
       let running : is_running c.phase ≡ true = sym (running_number c.phase) ∙ (meets w c f.picked).stage in
       let still : aca_at (claimed_by t c (failed status)).units unit ≡ Some p =

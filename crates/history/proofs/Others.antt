@@ -15,10 +15,9 @@ use Rattle.task.specs.Selections.{picks, named}
 use Rattle.wire.specs.declared.codes.Kind.{Kind}
 use Rattle.task.specs.declared.Sequel.{Sequel}
 use Rattle.task.specs.declared.Task.{Task}
-use Rattle.task.specs.declared.scan.Pick.{Pick}
 use Rattle.task.specs.declared.select.Selection.{Selection}
 use Rattle.wire.proofs.Table.{cond_ind}
-use Rattle.task.proofs.Ways.{either_way, both}
+use Rattle.task.proofs.Ways.{either_way}
 use Rattle.table.specs.Tables.{path_of, pick_of, has_room, accepted, ended_by}
 use Rattle.table.specs.View.{Shaped, at}
 use Rattle.table.specs.declared.Table.{Table}
@@ -26,6 +25,7 @@ use Rattle.table.proofs.Views.{not_both, at_put_other, at_free, same_at, ended_t
 use Rattle.rules.specs.Facts.{facts_of, lookup_of}
 use Rattle.rules.specs.Rules.{deciding}
 use Rattle.rules.specs.Management.{order_code}
+use Rattle.plan.proofs.Promises.{awaited_is}
 use Rattle.plan.specs.Plans.{ruled, order_plan}
 use Rattle.engine.specs.Calls.{with_parts, plan_at, with_records, carried_out}
 use Rattle.rules.specs.declared.change.Change.{Change}
@@ -99,10 +99,9 @@ module _ (i : ℕ) (a : Task) (l : i < 64) where
       plan_spares m tag (Manage o) r =
           cond_ind (λ (pl : Plan). Spares i a pl.records) (eqb (order_code _ m o).0 (Codes.done).0) (λ _. not_ended _ (own_order p o r a)) (λ _. tt)
       plan_spares m tag (Confirm offset complete) r =
-          let own : Pick = pick_of t (named p tag) in
-          each_confirm (λ (pl : Plan). Spares i a pl.records) own p tag m offset complete tt tt (λ _ _. not_ended _ (own_numbered own.task.arrival p tag a))
-          (λ w _ _ same.
-          let f = pick_at t (named p tag) h (both _ _ w).0 in
+          each_confirm (λ (pl : Plan). Spares i a pl.records) (pick_of t (named p tag)) p tag m offset complete tt tt (λ own _ _. not_ended _ (own_numbered own.task.arrival p tag a))
+          (λ own w _ _ same.
+          let f = pick_at t (named p tag) h (awaited_is _ own w).0 in
           n (ap (λ (b : Task). b.path) (same_element (rw same at e) f.here) ∙ own_order p (AbortTask tag) refl own.task f.picked))
 
 pub others_stay : OthersStay

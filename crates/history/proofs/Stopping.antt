@@ -12,6 +12,7 @@ use Rattle.wire.specs.declared.codes.StatusByte.{StatusByte}
 use Rattle.wire.specs.declared.codes.Sense.{Sense}
 use Rattle.wire.specs.declared.message.Flags.{Flags}
 use Rattle.wire.proofs.Table.{cond_ind}
+use Rattle.std.specs.Prelude.{Some}
 use Rattle.task.specs.Index.{some_below, map_of}
 use Rattle.task.specs.Map.{is_live, with_bit, gone}
 use Rattle.task.specs.Tasks.{is_running, is_unconfirmed, restarts}
@@ -37,7 +38,8 @@ use Rattle.rules.specs.Rules.{deciding}
 use Rattle.rules.specs.declared.change.Change.{Change}
 use Rattle.rules.specs.declared.command.Ruling.{Ruling}
 use Rattle.rules.specs.declared.command.Ruling.TheVariants.{Refuse, Respond, Report, Invalid, Accept}
-use Rattle.plan.specs.Plans.{ruled, order_plan, is_awaited}
+use Rattle.plan.proofs.Promises.{awaited_is}
+use Rattle.plan.specs.Plans.{ruled, order_plan, awaited}
 use Rattle.plan.specs.declared.Request.{Request}
 use Rattle.plan.specs.declared.Request.TheVariants.{Command, Manage, Confirm}
 use Rattle.plan.specs.declared.RecordChange.{RecordChange}
@@ -149,10 +151,9 @@ module _ (t : Table) where
     ruling_silent next p tag lun flags Accept = tt
 
     -- the task that a confirmation is about waits to be confirmed, and no other has its number
-    completes_silent : (p tag : ℕ) → is_awaited (pick_of t (named p tag)) ≡ true → Silent (records.Complete (numbered_as (pick_of t (named p tag)).task.arrival p tag))
-    completes_silent p tag w i l e =
-        let own : Pick = pick_of t (named p tag) in
-        let b = both own.found _ w in
+    completes_silent : (p tag : ℕ) (own : Pick) → awaited (pick_of t (named p tag)) ≡ Some own → Silent (records.Complete (numbered_as own.task.arrival p tag))
+    completes_silent p tag own w i l e =
+        let b = awaited_is _ own w in
         let f = pick_at t (named p tag) g.shaped b.0 in
         let q = both (is_live t.live i) _ e in
         let s : Selection = numbered_as own.task.arrival p tag in
@@ -165,7 +166,7 @@ module _ (t : Table) where
     plan_silent p tag (Command lun flags) = ruling_silent t.next p tag lun flags (deciding (facts_of t p tag lun) flags m).gives
     plan_silent p tag (Manage o) = cond_ind (λ (pl : Plan). Silent pl.records) (eqb (order_code _ m o).0 (Codes.done).0) (λ _. tt) (λ _. tt)
     plan_silent p tag (Confirm offset complete) =
-        each_confirm (λ (pl : Plan). Silent pl.records) (pick_of t (named p tag)) p tag m offset complete tt tt (λ w _. completes_silent p tag w) (λ _ _ _. tt)
+        each_confirm (λ (pl : Plan). Silent pl.records) (pick_of t (named p tag)) p tag m offset complete tt tt (λ w e _. completes_silent p tag w e) (λ _ _ _ _. tt)
 
     pub message_stops : (n : ℕ) → Stops t (message_of t m n)
     unfolding carried_out
@@ -174,7 +175,7 @@ module _ (t : Table) where
         (λ path tag w _ _. records_stop (plan_at t m (path_of t path) tag w).change (plan_at t m (path_of t path) tag w).records (plan_silent (path_of t path) tag w)) n
 
   pub start_stops : (unit : ℕ) → Stops t (start_of t unit)
-  start_stops unit = each_start (Stops t) t (λ _. nothing_stops t) unit (λ _ _ _. nothing_stops t)
+  start_stops unit = each_start (Stops t) t (λ _. nothing_stops t) unit (λ _ _ _ _. nothing_stops t)
 
   pub reset_stops : Stops t (total_reset_of t)
   unfolding reset_of
@@ -184,4 +185,4 @@ module _ (t : Table) where
       (λ i l. gone_at t.live 0 i l ∙ ap (λ (b : Bool). is_live t.live i && not b) (dead_zero i) ∙ ap (λ (b : Bool). is_live t.live i && b) (sym (picks_every (task_at t i)))))
 
 pub finish_stops : (t : Table) (arrival : ℕ) (status : StatusByte) (s : Sense) (transferred n : ℕ) → (finish_of t arrival status s transferred n).stops ≡ 0
-finish_stops t arrival status s transferred n = each_finish (λ (o : Outcome). o.stops ≡ 0) t (λ _. refl) arrival status s transferred n (λ _. refl)
+finish_stops t arrival status s transferred n = each_finish (λ (o : Outcome). o.stops ≡ 0) t (λ _. refl) arrival status s transferred n (λ _ _. refl)

@@ -1,19 +1,14 @@
 -- Drives: the engine's own calls; seven that differ from it in one thing and break demand 3 on a short trace; those
 -- that work at the first call and afterwards only echo; and one that refuses every call, which demand 3 alone does
 -- not refuse.
-use Rattle.std.specs.Prelude.{Result, Ok, Err}
-use Rattle.std.specs.Prelude.{ℕ, zero, suc, ◌-◌, ◌<◌, ◌^◌, ◌≡◌, cond, List, [], ◌∷◌, ◌++◌, length, set, eqb}
+use Rattle.std.specs.Prelude.{Result, Ok, Err, ℕ, zero, suc, ◌-◌, ◌<◌, ◌^◌, ◌≡◌, cond, List, [], ◌∷◌, ◌++◌, length, set, eqb, Some, None}
 use Rattle.wire.specs.Codes
 use Rattle.wire.specs.Fields.{byte}
 use Rattle.wire.specs.Messages.{read_of}
 use Rattle.wire.specs.declared.codes.Refusal.{Refusal}
 use Rattle.reply.specs.declared.Reply.TheVariants as reply
 use Rattle.task.specs.Selections.{select, every_task, named}
-use Rattle.task.specs.declared.select.Number.TheVariants.{Exactly}
 use Rattle.task.specs.declared.select.Whose.TheVariants.{Anyone}
-use Rattle.task.specs.declared.select.Place.TheVariants.{Anywhere}
-use Rattle.task.specs.declared.select.Sort.TheVariants.{AnyKind}
-use Rattle.task.specs.declared.select.Stage.TheVariants.{AnyPhase}
 use Rattle.task.specs.declared.select.Selection.{Selection}
 use Rattle.table.specs.Tables.{ended_by}
 use Rattle.table.specs.declared.Table.{Table}
@@ -125,7 +120,7 @@ loses_tasks TotalReset t = engine TotalReset t
 
 -- a task with CONFIRM is ended at its finish, as any other
 abbrev pub numbered : ℕ → Selection
-numbered arrival = select (Exactly arrival) Anyone Anywhere AnyKind AnyPhase
+numbered arrival = select (Some arrival) Anyone None None None
 
 unfoldable pub ends_at_finish : Drive
 ends_at_finish (Message m buf) t = engine (Message m buf) t
