@@ -222,14 +222,14 @@ module _ (t : Table) (arrival : ℕ) where
         cond_ind L (ltb room Codes.reply_room) (λ _. none_left _ Codes.small_buffer) (λ _.
         cond_ind L (not (may_finish x s)) (λ _. none_left _ Codes.bad_status) (λ _. reported _)))
 
-    pub finishes : {b : Bool} {q : Selection} {p : Option Pick} {a : Task} {from : path.Path} {v : Verdict} {l : List unit.Unit} {k : Step} {u : Table} {n : ℕ} → b ≡ sound_of t → q ≡ running_as arrival → p ≡ pick_of t q
-        → a ≡ task_or_none p → from ≡ path_at t a.path → v ≡ judged_by b room x s p from.id → l ≡ finish_units t.units t.live v.place a (failed x)
+    pub finishes : {b bad : Bool} {q : Selection} {p : Option Pick} {a : Task} {from : path.Path} {v : Verdict} {l : List unit.Unit} {k : Step} {u : Table} {n : ℕ} → b ≡ sound_of t → q ≡ running_as arrival → p ≡ pick_of t q
+        → a ≡ task_or_none p → from ≡ path_at t a.path → v ≡ judged_by b room x s p from.id → bad ≡ failed x → l ≡ finish_units t.units t.live v.place a bad
         → k ≡ finish_step t.live v.place a transferred → u ≡ stepped (with_units t l) k → n ≡ gone t.live u.live
         → record { table = u; answer = v.answer; ended = n; to = v.to; stops = 0 } ≡ finish_of t arrival x s transferred room
     unfolding finish_of judged_by finish_verdict
-    finishes h y g f d e c w z n =
+    finishes h y g f d e i c w z n =
         let j : _ ≡ judgement = e ∙ rw (h, d, f, g, y) judged_so in
-        rw (n, z, w, c, j, f, g, y) (ap (closed judgement t) left)
+        rw (n, z, w, c, i, j, f, g, y) (ap (closed judgement t) left)
       where
         judged_so : judged_by (sound_of t) room x s found (path_at t (task_or_none found).path).id ≡ judgement
         judged_so = refl

@@ -130,35 +130,26 @@ pub fn message(mut t: Table, m: &[u8], reply: &mut [u8]) -> Outcome
             plan_for(lookup, t.next, p, a.tag, m, request)
         }
     };
-    let answer = plan.answer;
-    let change = plan.change;
-    let records = plan.records;
-    let paths = t.paths;
-    let changed_paths = plan::change_paths(paths, t.count, change);
-    t.paths = changed_paths;
-    let units = t.units;
-    let changed_units = plan::change_units(units, change);
-    t.units = changed_units;
+    t.paths = plan::change_paths(t.paths, t.count, plan.change);
+    t.units = plan::change_units(t.units, plan.change);
     let before = t.live;
     let mut stops: u8 = 0;
     // No step where no record changes: it would copy the table twice. Of what a message ends only what an order ends can
     // be running: its unit has to stop.
-    match records {
+    match plan.records {
         RecordChange::Nothing => {}
         RecordChange::End(s) => {
             stops = t.running_among(s);
             t = t.step(Step::End(s));
         }
-        _ => t = t.step(step_of(records)),
+        _ => t = t.step(step_of(plan.records)),
     }
-    // The reply goes by a copy of the answer, so that the outcome is made where it is handed back.
-    let said = plan.answer;
-    reply_to(said, reply);
+    reply_to(plan.answer, reply);
     Outcome {
         table: t,
-        answer,
+        answer: plan.answer,
         ended: task::map::gone(before, t.live),
-        to: reply_path(answer, sender_of(asked)),
+        to: reply_path(plan.answer, sender_of(asked)),
         stops,
     }
 }
@@ -167,10 +158,11 @@ pub fn message(mut t: Table, m: &[u8], reply: &mut [u8]) -> Outcome
 fn may_go(aca: Option<u8>, unit: u8) -> Selection
     ensures { result ≡ may_go aca unit }
 {
-    if table::units::has_aca(aca) {
-        return Selection::aca_waiting_on(unit);
+    if aca.is_some() {
+        Selection::aca_waiting_on(unit)
+    } else {
+        Selection::waiting_on(unit)
     }
-    Selection::waiting_on(unit)
 }
 
 // What a call of the device comes to: the answer, the record that it is about, or 64, and the id of the path that the
@@ -210,11 +202,10 @@ fn choose(checked: bool, attached: bool, busy: bool, p: Option<Pick>) -> Verdict
     let Some(p) = p else {
         return reject(Refusal::NothingToStart);
     };
-    let a = p.task;
     Verdict {
         answer: Ok(Answer::Started {
-            offset: a.position,
-            arrival: a.arrival,
+            offset: p.task.position,
+            arrival: p.task.arrival,
         }),
         place: p.at,
         to: 0,
@@ -227,18 +218,15 @@ pub fn start(mut t: Table, unit: u8) -> Outcome
 {
     let sound = is_sound(t);
     let running = t.holders(Selection::running_on(unit));
-    let u = t.unit_at(unit);
-    let aca = u.aca;
-    let p = t.pick(may_go(aca, unit));
+    let p = t.pick(may_go(t.unit_at(unit).aca, unit));
     let v = choose(sound, t.is_attached(unit), running.is_some(), p);
-    let answer = v.answer;
     t = t.step(Step::Alter {
         place: v.place,
         by: Alteration::Run,
     });
     Outcome {
         table: t,
-        answer,
+        answer: v.answer,
         ended: 0,
         to: v.to,
         stops: 0,
@@ -249,30 +237,22 @@ pub fn start(mut t: Table, unit: u8) -> Outcome
 fn may_finish(status: StatusByte, sense: Sense) -> bool
     ensures { result ≡ may_finish status sense }
 {
-    if sense.key > 15 {
-        return false;
-    }
-    let b = status.0;
-    if b == StatusByte::GOOD.0 {
-        return true;
-    }
-    if b == StatusByte::CHECK_CONDITION.0 {
-        return true;
-    }
-    if b == StatusByte::CONDITION_MET.0 {
-        return true;
-    }
-    b == StatusByte::RESERVATION_CONFLICT.0
+    sense.key <= 15
+        && (status == StatusByte::GOOD
+            || status == StatusByte::CHECK_CONDITION
+            || status == StatusByte::CONDITION_MET
+            || status == StatusByte::RESERVATION_CONFLICT)
 }
 
 // Sense goes with CHECK CONDITION alone.
 fn sent_sense(status: StatusByte, sense: Sense) -> Sense
     ensures { result ≡ sent_sense status sense }
 {
-    if status.0 == StatusByte::CHECK_CONDITION.0 {
-        return sense;
+    if status == StatusByte::CHECK_CONDITION {
+        sense
+    } else {
+        Sense::NONE
     }
-    Sense::NONE
 }
 
 // What a finish comes to, by what was asked of the table: whether it passed the check, the running task of the arrival
@@ -300,10 +280,9 @@ fn judge(
     let Some(p) = p else {
         return reject(Refusal::NotRunning);
     };
-    let a = p.task;
     Verdict {
         answer: Ok(Answer::Reply(Reply::Status {
-            tag: a.tag,
+            tag: p.task.tag,
             status,
             sense: sent_sense(status, sense),
         })),
@@ -342,19 +321,16 @@ pub fn finish(
     let p = t.pick(Selection::running_as(arrival));
     let a = task_or_none(p);
     let sender = t.path_at(a.path as usize);
-    let v = judge(sound, reply.len(), StatusByte(status), s, p, sender.id);
-    let answer = v.answer;
-    let failed = status == StatusByte::CHECK_CONDITION.0;
-    let units = t.units;
-    let claimed = finish_units(units, t.live, v.place, a, failed);
-    t.units = claimed;
+    let status = StatusByte(status);
+    let v = judge(sound, reply.len(), status, s, p, sender.id);
+    let failed = status == StatusByte::CHECK_CONDITION;
+    t.units = finish_units(t.units, t.live, v.place, a, failed);
     let before = t.live;
     t = t.step(finish_step(before, v.place, a, transferred));
-    let said = v.answer;
-    reply_to(said, reply);
+    reply_to(v.answer, reply);
     Outcome {
         table: t,
-        answer,
+        answer: v.answer,
         ended: task::map::gone(before, t.live),
         to: v.to,
         stops: 0,
@@ -370,12 +346,8 @@ pub fn total_reset(mut t: Table) -> Outcome
     let mut stops: u8 = 0;
     if is_sound(t) {
         stops = t.running_among(Selection::ALL);
-        let paths = t.paths;
-        let reset = table::paths::give_reset_attention(paths, t.count, true);
-        t.paths = reset;
-        let units = t.units;
-        let clear = table::units::clear_aca(units, None);
-        t.units = clear;
+        t.paths = table::paths::give_reset_attention(t.paths, t.count, true);
+        t.units = table::units::clear_aca(t.units, None);
         t = t.step(Step::End(Selection::ALL));
         answer = Ok(Answer::Reset);
     }
@@ -416,6 +388,6 @@ pub fn command_block(m: &[u8], a: Result<Answer, Refusal>) -> &[u8]
 {
     match a {
         Ok(Answer::Accepted(_)) => wire::block::command_block(m),
-        _ => &m[..0],
+        _ => &[],
     }
 }

@@ -259,7 +259,7 @@ fn plan_order(f: Facts, others: u8, p: u8, tag: u16, m: &[u8], o: Order) -> Plan
 {
     let code = rules::manage::order_code(f, m, o);
     let answer = Ok(Answer::Reply(Reply::Response { tag, code }));
-    if code.0 == ReturnCode::DONE.0 {
+    if code == ReturnCode::DONE {
         return Plan {
             answer,
             change: rules::manage::order_change(others, o),
@@ -315,16 +315,13 @@ fn plan_confirm(own: Option<Pick>, p: u8, tag: u16, m: &[u8], offset: u32, compl
 pub fn find_plan(s: Lookup, next: u64, p: u8, tag: u16, m: &[u8], w: Request) -> Plan
     ensures { result ≡ plan_of s next p tag m.now w }
 {
-    let f = s.facts;
-    let own = s.own;
     match w {
         Request::Command { lun, flags } => {
-            let d = rules::command::decide(f, flags, m);
-            let r = d.ruling;
-            rule(next, p, tag, lun, flags, r)
+            let ruling = rules::command::decide(s.facts, flags, m).ruling;
+            rule(next, p, tag, lun, flags, ruling)
         }
-        Request::Manage(o) => plan_order(f, s.others, p, tag, m, o),
-        Request::Confirm { offset, complete } => plan_confirm(own, p, tag, m, offset, complete),
+        Request::Manage(o) => plan_order(s.facts, s.others, p, tag, m, o),
+        Request::Confirm { offset, complete } => plan_confirm(s.own, p, tag, m, offset, complete),
     }
 }
 

@@ -27,10 +27,10 @@ returns c =
             ],
           )
     ] in
-    let e = c.change_paths-changed_paths.ensures in
-    let f = c.change_units-changed_units.ensures in
-    let u : (c.match-records.t ≡ carried_out t pl) × (c.match-records.stops ≡ stops_for t pl.records) =
-    elim c.match-records.branch [
+    let e = c.change_paths-t.ensures in
+    let f = c.change_units-t.ensures in
+    let u : (c.match-plan.t ≡ carried_out t pl) × (c.match-plan.stops ≡ stops_for t pl.records) =
+    elim c.match-plan.branch [
       | in-Nothing w ↦ (carries_nothing t pl e f w.in-Nothing.is w.t-is, w.stops-is ∙ none_stops t w.in-Nothing.is)
       | in-End w ↦ (carries_order t pl e f w.in-End.is (w.t-is ∙ w.step-t.ensures), order_stops t pl e f w.in-End.is (w.stops-is ∙ w.running_among-stops.ensures))
       | in_default w ↦ (carries_out t pl e f w.step_of.ensures (w.t-is ∙ w.step-t-in_default.ensures), w.stops-is ∙ other_stops t pl.records w.in_default.not-End)

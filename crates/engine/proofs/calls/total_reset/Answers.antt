@@ -13,6 +13,6 @@ returns c =
     let e = c.is_sound.ensures in
     let n : length t.tasks ≡ 64 = search (rules, unmapped) in
     elim c.if-is_sound.branch [
-      | then-is_sound w ↦ rw w.answer-is (resets t e w.if-is_sound.true (w.stops-is ∙ w.running_among-stops.ensures) w.give_reset_attention-reset.ensures w.clear_aca-clear.ensures (w.t-is ∙ w.step-t.ensures) c.gone.ensures n)
+      | then-is_sound w ↦ rw w.answer-is (resets t e w.if-is_sound.true (w.stops-is ∙ w.running_among-stops.ensures) w.give_reset_attention-t.ensures w.clear_aca-t.ensures (w.t-is ∙ w.step-t.ensures) c.gone.ensures n)
       | else-is_sound w ↦ rw (w.answer-is, w.stops-is) (reset_refused t e w.if-is_sound.false w.t-is c.gone.ensures)
     ]
