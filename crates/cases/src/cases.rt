@@ -64,10 +64,8 @@ fn fields(rt: &impl Print, m: Message) -> io::Result<()> {
             complete,
         } => {
             header(rt, "confirm status", tag, path)?;
-            print!(rt;
-                " new {new_path:08X} offset {offset:08X} complete {}",
-                complete as u8
-            )
+            let complete = complete as u8;
+            print!(rt; " new {new_path:08X} offset {offset:08X} complete {complete}")
         }
         Message::AbortTask { tag, path, tag2 } => {
             header(rt, "abort task", tag, path)?;

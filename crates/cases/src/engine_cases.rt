@@ -104,10 +104,10 @@ fn setup(rt: &impl Print, t: Table, c: &[u8]) -> io::Result<Table> {
 
 // Letter M: a message, from the buffer's length and the bytes.
 fn message(rt: &impl Print, t: Table, c: &[u8]) -> io::Result<Table> {
-    let mut room = [FILL; BUFFER];
     let [length, m @ ..] = c else {
         return bad(rt, t);
     };
+    let mut room = [FILL; BUFFER];
     let Some(buffer) = room.get_mut(..*length as usize) else {
         return bad(rt, t);
     };

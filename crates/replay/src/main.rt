@@ -2,8 +2,6 @@
 // The file `names` has one name a line; NAME.in is an input, NAME.out its text.
 #![tactic(auto)]
 
-ghost use Rattle.std.specs.Prelude.{◌≤◌, length};
-
 use std::alloc::{AllocError, Allocator};
 use std::io::Read;
 use std::rt::Files;

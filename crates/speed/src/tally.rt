@@ -15,7 +15,7 @@ pub struct Tally {
     pub stopped: u64,
 }
 
-// One more, or another number more.
+// Adds to a count.
 fn count(n: &mut u64, more: u64) {
     *n = n.wrapping_add(more);
 }
