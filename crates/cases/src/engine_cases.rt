@@ -1,9 +1,7 @@
 // The letters of the engine's calls: each takes the kept table, says the answer and what was ended, and hands back the
 // next table.
 use crate::cases::{BUFFER, FILL, ROOM, bad_case, refused};
-use crate::print::{
-    counted, counted_if, decimal, hex, hex_long, hex_map, hex_word, pairs, pairs_filled, text,
-};
+use crate::print::{counted_if, pairs, pairs_filled};
 use engine::Outcome;
 use engine::calls::command_block;
 use plan::Answer;
@@ -12,81 +10,54 @@ use std::io;
 use table::{LAST_ARRIVAL, Table};
 use task::scan::Pick;
 use task::select::Selection;
-use wire::codes::{ReturnCode, Sense, StatusByte};
-use wire::fields::byte_at;
 
 // The arrival number, or the number of bytes transferred, that a byte stands for: FEh for 2^64 - 2, FFh for 2^64 - 1.
 pub(crate) fn arrival(b: u8) -> u64 {
-    if b == 0xff {
-        return 0xffff_ffff_ffff_ffff;
+    match b {
+        0xff => u64::MAX,
+        0xfe => LAST_ARRIVAL,
+        _ => u64::from(b),
     }
-    if b == 0xfe {
-        return LAST_ARRIVAL;
-    }
-    b as u64
 }
 
-// Whether a case has n bytes; one that has not is answered here.
-pub(crate) fn has(rt: &impl Print, c: &[u8], n: usize) -> io::Result<bool> {
-    if c.len() == n {
-        return Ok(true);
-    }
+// The answer to a line that is no case, which leaves the table.
+pub(crate) fn bad(rt: &impl Print, t: Table) -> io::Result<Table> {
     bad_case(rt)?;
-    Ok(false)
+    Ok(t)
 }
 
 // The replies in the words of a transcript.
-fn say_response(rt: &impl Print, tag: u16, code: ReturnCode) -> io::Result<()> {
-    text(rt, b"response ")?;
-    hex_word(rt, tag)?;
-    pairs(rt, &[code.0])
-}
-
-fn say_status(rt: &impl Print, tag: u16, status: StatusByte, sense: Sense) -> io::Result<()> {
-    text(rt, b"status ")?;
-    hex_word(rt, tag)?;
-    pairs(rt, &[status.0, sense.key, sense.code, sense.qualifier])
-}
-
-fn say_invalid(rt: &impl Print, tag: u16) -> io::Result<()> {
-    text(rt, b"invalid ")?;
-    hex_word(rt, tag)
-}
-
 fn say_reply(rt: &impl Print, r: Reply) -> io::Result<()> {
     match r {
-        Reply::Response { tag, code } => say_response(rt, tag, code),
-        Reply::Status { tag, status, sense } => say_status(rt, tag, status, sense),
-        Reply::Invalid { tag } => say_invalid(rt, tag),
+        Reply::Response { tag, code } => print!(rt; "response {tag:04X} {:02X}", code.0),
+        Reply::Status { tag, status, sense } => {
+            print!(rt; "status {tag:04X}")?;
+            pairs(rt, &[status.0, sense.key, sense.code, sense.qualifier])
+        }
+        Reply::Invalid { tag } => print!(rt; "invalid {tag:04X}"),
     }
 }
 
-// A start in the words of a transcript, and the offset that is handed back.
-fn say_started(rt: &impl Print, arrival: u64, offset: u64) -> io::Result<()> {
-    counted(rt, b"started ", arrival)?;
-    counted_if(rt, b" offset ", offset)
-}
-
-// An answer in the words of a transcript, and `ready` for a setup.
+// An answer in the words of a transcript, and `ready` for a setup. A start has the offset behind it that is handed back.
 fn say(rt: &impl Print, a: Answer) -> io::Result<()> {
     match a {
-        Answer::Ready => text(rt, b"ready"),
-        Answer::Accepted(n) => counted(rt, b"accepted ", n),
+        Answer::Ready => print!(rt; "ready"),
+        Answer::Accepted(n) => print!(rt; "accepted {n}"),
         Answer::Reply(r) => say_reply(rt, r),
-        Answer::Started { offset, arrival } => say_started(rt, arrival, offset),
-        Answer::Confirmed(n) => counted(rt, b"confirmed ", n),
-        Answer::Restarted(n) => counted(rt, b"restarted ", n),
-        Answer::Reset => text(rt, b"reset"),
+        Answer::Started { offset, arrival } => {
+            print!(rt; "started {arrival}")?;
+            counted_if(rt, " offset ", offset)
+        }
+        Answer::Confirmed(n) => print!(rt; "confirmed {n}"),
+        Answer::Restarted(n) => print!(rt; "restarted {n}"),
+        Answer::Reset => print!(rt; "reset"),
         Answer::Refused(r) => refused(rt, r),
     }
 }
 
 // What a call ended, and which units have to stop.
 fn say_ended(rt: &impl Print, ended: u64, stops: u8) -> io::Result<()> {
-    text(rt, b" ended ")?;
-    hex_map(rt, ended)?;
-    text(rt, b" stops ")?;
-    hex(rt, stops)
+    print!(rt; " ended {ended:016X} stops {stops:02X}")
 }
 
 // The answer of a call that writes no reply, and its table.
@@ -100,57 +71,46 @@ fn told(rt: &impl Print, o: Outcome) -> io::Result<Table> {
 // The answer, and the path that the reply goes to.
 fn say_to(rt: &impl Print, a: Answer, to: u32) -> io::Result<()> {
     say(rt, a)?;
-    text(rt, b" to ")?;
-    hex_long(rt, to)
+    print!(rt; " to {to:08X}")
 }
 
 // The command block, where one is handed over.
 fn say_block(rt: &impl Print, part: &[u8]) -> io::Result<()> {
-    if part.len() == 0 {
+    if part.is_empty() {
         return Ok(());
     }
-    text(rt, b" block")?;
+    print!(rt; " block")?;
     pairs(rt, part)
 }
 
 // The whole buffer.
 fn say_buffer(rt: &impl Print, buffer: &[u8]) -> io::Result<()> {
-    text(rt, b" buffer")?;
+    print!(rt; " buffer")?;
     pairs_filled(rt, buffer, FILL)
 }
 
-// The ids of a setup, one byte each.
-fn ids_of(c: &[u8]) -> [u32; ROOM] {
-    let mut ids = [0; ROOM];
-    let mut i = 0;
-    while i < ROOM {
-        ids[i] = byte_at(c, i) as u32;
-        i += 1;
-    }
-    ids
-}
-
-// The first n ids, or all where there are fewer.
-fn front_ids(ids: &[u32; ROOM], n: usize) -> &[u32] {
-    let all: &[u32] = ids;
-    if n <= all.len() { &all[0..n] } else { all }
-}
-
-// Letter U: setup, from the mask, the first arrival number and the ids.
+// Letter U: setup, from the mask, the first arrival number and the ids, one byte each.
 fn setup(rt: &impl Print, t: Table, c: &[u8]) -> io::Result<Table> {
-    if c.len() < 2 {
-        bad_case(rt)?;
-        return Ok(t);
+    let [mask, first, bytes @ ..] = c else {
+        return bad(rt, t);
+    };
+    let mut ids = [0; ROOM];
+    for (id, b) in ids.iter_mut().zip(bytes) {
+        *id = u32::from(*b);
     }
-    let ids = ids_of(&c[2..]);
-    told(
-        rt,
-        engine::calls::setup(front_ids(&ids, c.len() - 2), c[0], arrival(c[1])),
-    )
+    let listed = ids.get(..bytes.len()).unwrap_or(&ids);
+    told(rt, engine::calls::setup(listed, *mask, arrival(*first)))
 }
 
-// A message, with this reply buffer.
-fn receive(rt: &impl Print, t: Table, m: &[u8], buffer: &mut [u8]) -> io::Result<Table> {
+// Letter M: a message, from the buffer's length and the bytes.
+fn message(rt: &impl Print, t: Table, c: &[u8]) -> io::Result<Table> {
+    let [length, m @ ..] = c else {
+        return bad(rt, t);
+    };
+    let mut room = [FILL; BUFFER];
+    let Some(buffer) = room.get_mut(..*length as usize) else {
+        return bad(rt, t);
+    };
     let o = engine::calls::message(t, m, buffer);
     let a = o.answer;
     say_to(rt, a, o.to)?;
@@ -160,35 +120,28 @@ fn receive(rt: &impl Print, t: Table, m: &[u8], buffer: &mut [u8]) -> io::Result
     Ok(o.table)
 }
 
-// A message, with the first n bytes of the room for the reply.
-fn receive_in(rt: &impl Print, t: Table, m: &[u8], room: &mut [u8], n: usize) -> io::Result<Table> {
-    if n > room.len() {
-        bad_case(rt)?;
-        return Ok(t);
-    }
-    receive(rt, t, m, &mut room[0..n])
-}
-
-// Letter M: a message, from the buffer's length and the bytes.
-fn message(rt: &impl Print, t: Table, c: &[u8]) -> io::Result<Table> {
-    if c.len() == 0 {
-        bad_case(rt)?;
-        return Ok(t);
-    }
+// Letter F: a finish, from the buffer's length, the arrival number, the status, the sense and, in a seventh byte, the
+// bytes transferred. No byte was where there are six.
+fn finish(rt: &impl Print, t: Table, c: &[u8]) -> io::Result<Table> {
+    let (six, transferred) = match c {
+        [six @ .., last] if six.len() == 6 => (six, *last),
+        _ => (c, 0),
+    };
+    let &[length, number, status, key, code, qualifier] = six else {
+        return bad(rt, t);
+    };
     let mut room = [FILL; BUFFER];
-    receive_in(rt, t, &c[1..], &mut room, byte_at(c, 0) as usize)
-}
-
-// A finish of six or seven bytes, with this reply buffer. No byte was transferred where there are six.
-fn end_in(rt: &impl Print, t: Table, c: &[u8], buffer: &mut [u8]) -> io::Result<Table> {
+    let Some(buffer) = room.get_mut(..length as usize) else {
+        return bad(rt, t);
+    };
     let o = engine::calls::finish(
         t,
-        arrival(byte_at(c, 1)),
-        byte_at(c, 2),
-        byte_at(c, 3),
-        byte_at(c, 4),
-        byte_at(c, 5),
-        arrival(byte_at(c, 6)),
+        arrival(number),
+        status,
+        key,
+        code,
+        qualifier,
+        arrival(transferred),
         buffer,
     );
     let a = o.answer;
@@ -198,39 +151,18 @@ fn end_in(rt: &impl Print, t: Table, c: &[u8], buffer: &mut [u8]) -> io::Result<
     Ok(o.table)
 }
 
-// A finish, with the first n bytes of the room for the reply.
-fn finish_in(rt: &impl Print, t: Table, c: &[u8], room: &mut [u8], n: usize) -> io::Result<Table> {
-    if n > room.len() {
-        bad_case(rt)?;
-        return Ok(t);
-    }
-    end_in(rt, t, c, &mut room[0..n])
-}
-
-// Letter F: a finish, from the buffer's length, the arrival number, the status, the sense and, in a seventh byte, the
-// bytes transferred.
-fn finish(rt: &impl Print, t: Table, c: &[u8]) -> io::Result<Table> {
-    if c.len() != 6 {
-        if !has(rt, c, 7)? {
-            return Ok(t);
-        }
-    }
-    let mut room = [FILL; BUFFER];
-    finish_in(rt, t, c, &mut room, byte_at(c, 0) as usize)
-}
-
 // Letter S: a start.
 fn start(rt: &impl Print, t: Table, c: &[u8]) -> io::Result<Table> {
-    if !has(rt, c, 1)? {
-        return Ok(t);
-    }
-    told(rt, engine::calls::start(t, byte_at(c, 0)))
+    let [unit] = c else {
+        return bad(rt, t);
+    };
+    told(rt, engine::calls::start(t, *unit))
 }
 
 // Letter Z: total reset.
 fn reset(rt: &impl Print, t: Table, c: &[u8]) -> io::Result<Table> {
-    if !has(rt, c, 0)? {
-        return Ok(t);
+    if !c.is_empty() {
+        return bad(rt, t);
     }
     told(rt, engine::calls::total_reset(t))
 }
@@ -238,28 +170,26 @@ fn reset(rt: &impl Print, t: Table, c: &[u8]) -> io::Result<Table> {
 // A task's arrival number and the place of its record.
 fn say_pick(rt: &impl Print, p: Pick) -> io::Result<()> {
     if !p.found {
-        return text(rt, b"nobody");
+        return print!(rt; "nobody");
     }
     let a = p.task;
-    counted(rt, b"next ", a.arrival)?;
-    text(rt, b" at ")?;
-    decimal(rt, p.at)
+    print!(rt; "next {} at {}", a.arrival, p.at)
 }
 
 // Letter N: what goes next on the unit, of the waiting tasks.
 fn next(rt: &impl Print, t: Table, c: &[u8]) -> io::Result<()> {
-    if !has(rt, c, 1)? {
-        return Ok(());
+    match c {
+        [unit] => say_pick(rt, t.pick(Selection::waiting_on(*unit))),
+        _ => bad_case(rt),
     }
-    say_pick(rt, t.pick(Selection::waiting_on(byte_at(c, 0))))
 }
 
 // Letter ?: the table.
 fn show(rt: &impl Print, t: Table, c: &[u8]) -> io::Result<()> {
-    if !has(rt, c, 0)? {
-        return Ok(());
+    match c {
+        [] => crate::table_cases::show(rt, t),
+        _ => bad_case(rt),
     }
-    crate::table_cases::show(rt, t)
 }
 
 // Answers the case of a letter with these bytes, and hands back the next table.

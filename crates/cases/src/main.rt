@@ -7,48 +7,31 @@ mod engine_cases;
 mod print;
 mod table_cases;
 
-ghost use Rattle.std.specs.Prelude.{◌≤◌, length, IfOk};
+ghost use Rattle.std.specs.Prelude.{◌<◌, IfSome};
 
 use cases::ROOM;
-use print::text;
 use std::io::Read;
 use std::rt::Files;
 use std::{fs, io};
 use table::Table;
-use wire::fields::byte_at;
 
-// What stands for the number of bytes where a line is no case.
-const NO_CASE: usize = ROOM + 1;
+// How much is read of standard input, and of a file.
+const MOST: u64 = 65536;
 
-// What two characters say.
-#[derive(Clone, Copy)]
-enum Pair {
-    Byte(u8),
-    Bad,
-}
-
-// The value of an upper-case hex digit, or 16 where the byte is none.
-fn digit(b: u8) -> u8 {
-    if b >= b'0' && b <= b'9' {
-        return b - b'0';
+// The value of an upper-case hex digit.
+fn digit(b: u8) -> Option<u8>
+    ensures { IfSome result (λ d. d < 16) }
+{
+    match b {
+        b'0'..=b'9' => Some(b - b'0'),
+        b'A'..=b'F' => Some(b - b'A' + 10),
+        _ => None,
     }
-    if b >= b'A' && b <= b'F' {
-        return b - b'A' + 10;
-    }
-    16
 }
 
 // The byte of two hex digits.
-fn join(high: u8, low: u8) -> Pair {
-    let h = digit(high);
-    let l = digit(low);
-    if h > 15 {
-        return Pair::Bad;
-    }
-    if l > 15 {
-        return Pair::Bad;
-    }
-    Pair::Byte(h * 16 + l)
+fn join(high: u8, low: u8) -> Option<u8> {
+    Some(digit(high)? * 16 + digit(low)?)
 }
 
 // What may stand between two pairs.
@@ -56,126 +39,70 @@ fn is_gap(b: u8) -> bool {
     b == b' ' || b == b'.'
 }
 
-// Puts the bytes that the digits say at the front of out, and answers how many, or NO_CASE.
-fn bytes_of(digits: &[u8], out: &mut [u8; ROOM]) -> usize {
-    let mut at = 0;
+// The bytes that the digits say, at the front of the room; none where they say no bytes, or too many.
+fn bytes_of<'a>(digits: &[u8], room: &'a mut [u8; ROOM]) -> Option<&'a [u8]> {
+    let mut digits = digits.iter();
     let mut count = 0;
-    while at < digits.len() {
-        if is_gap(digits[at]) {
-            at += 1;
+    while let Some(high) = digits.next() {
+        if is_gap(*high) {
             continue;
         }
-        let Pair::Byte(b) = join(digits[at], byte_at(digits, at + 1)) else {
-            return NO_CASE;
-        };
-        if count >= ROOM {
-            return NO_CASE;
-        }
-        out[count] = b;
+        let low = digits.next()?;
+        let to = room.get_mut(count)?;
+        *to = join(*high, *low)?;
         count += 1;
-        at += 2;
     }
-    count
-}
-
-// Answers a case with these bytes, of which there are NO_CASE where it is none.
-fn answer(
-    rt: &impl Print,
-    t: Table,
-    letter: u8,
-    bytes: &[u8; ROOM],
-    count: usize,
-) -> io::Result<Table> {
-    if count == NO_CASE {
-        cases::bad_case(rt)?;
-        return Ok(t);
-    }
-    engine_cases::run(rt, t, letter, cases::front(bytes, count))
+    room.get(..count)
 }
 
 // Answers a case on a line of its own: its letter, and the digits behind it.
 fn case(rt: &impl Print, t: Table, letter: u8, digits: &[u8]) -> io::Result<Table> {
-    let mut bytes = [0; ROOM];
-    let count = bytes_of(digits, &mut bytes);
-    text(rt, b"  ")?;
-    let next = answer(rt, t, letter, &bytes, count)?;
-    text(rt, b"\n")?;
+    let mut room = [0; ROOM];
+    print!(rt; "  ")?;
+    let next = match bytes_of(digits, &mut room) {
+        Some(bytes) => engine_cases::run(rt, t, letter, bytes)?,
+        None => engine_cases::bad(rt, t)?,
+    };
+    println!(rt; "")?;
     Ok(next)
 }
 
 // Echoes a line, and answers it unless it is empty or a heading.
 fn line(rt: &impl Print, t: Table, l: &[u8]) -> io::Result<Table> {
-    text(rt, l)?;
-    text(rt, b"\n")?;
-    if l.len() == 0 {
-        return Ok(t);
+    rt.write_all(l)?;
+    println!(rt; "")?;
+    match l {
+        [] | [b'#', ..] => Ok(t),
+        [letter, digits @ ..] => case(rt, t, *letter, digits),
     }
-    if l[0] == b'#' {
-        return Ok(t);
-    }
-    case(rt, t, l[0], &l[1..])
-}
-
-// Where the line that starts at a place ends.
-fn end_of(t: &[u8], from: usize) -> usize
-    requires { from ≤ length t.now }
-    ensures { (from ≤ result) × (result ≤ length t.now) }
-{
-    let mut at = from;
-    while at < t.len() {
-        if t[at] == b'\n' {
-            return at;
-        }
-        at += 1;
-    }
-    at
 }
 
 // Takes the lines one by one. The table is all zero at first.
 fn lines(rt: &impl Print, text: &[u8]) -> io::Result<()> {
     let mut t = Table::zero();
-    let mut at = 0;
-    while at < text.len() {
-        let end = end_of(text, at);
-        t = line(rt, t, &text[at..end])?;
-        at = end + 1;
+    for l in text.split_inclusive(|b| *b == b'\n') {
+        t = line(rt, t, l.strip_suffix(b"\n").unwrap_or(l))?;
     }
     Ok(())
 }
 
-// Fills the buffer from its front until it is full or the input ends, and answers how many bytes were read.
-fn read_full(from: &mut impl Read, buf: &mut [u8]) -> io::Result<usize>
-    ensures { IfOk result (λ n. n ≤ length buf.new) }
-{
-    let mut done = 0;
-    while done < buf.len() {
-        let n = from.read(&mut buf[done..])?;
-        if n == 0 {
-            break;
-        }
-        done += n;
-    }
-    Ok(done)
-}
-
-// Takes the lines of an open file, up to 65,536 bytes.
-fn run_file(rt: &impl Print, file: &mut impl Read) -> io::Result<()> {
-    let mut buffer = [0u8; 65536];
-    let count = read_full(file, &mut buffer)?;
-    lines(rt, &buffer[..count])
+// Takes the lines of an open file.
+fn run_file(rt: &(impl Print + Alloc), file: impl Read + Drop) -> io::Result<()> {
+    let mut text = Vec::new(rt.alloc());
+    file.take(MOST).read_to_end(&mut text)?;
+    lines(rt, &text)
 }
 
 // Takes the lines of a file.
-fn run_named(rt: &(impl Files + Print), name: &str) -> io::Result<()> {
-    let Ok(mut file) = fs::open(rt, name) else {
-        text(rt, name.as_bytes())?;
-        return text(rt, b" missing\n");
-    };
-    run_file(rt, &mut file)
+fn run_named(rt: &(impl Files + Print + Alloc), name: &str) -> io::Result<()> {
+    match fs::open(rt, name) {
+        Ok(file) => run_file(rt, file),
+        Err(_) => println!(rt; "{name} missing"),
+    }
 }
 
 fn main(rt: HostRuntime) -> io::Result<()> {
-    run_file(&rt, &mut rt.reader())?;
+    run_file(&rt, rt.reader())?;
     run_named(&rt, "confirmed")?;
     run_named(&rt, "ended")?;
     run_named(&rt, "held")

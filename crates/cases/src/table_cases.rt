@@ -1,435 +1,289 @@
 // The table on a line, and a field of it set: so tables that are not sound are made.
-use crate::cases::bad_case;
-use crate::engine_cases::{arrival, has};
-use crate::print::{counted, counted_if, decimal, hex, hex_long, hex_map, hex_word, text, word_if};
+use crate::engine_cases::{arrival, bad};
+use crate::print::{counted_if, word_if};
 use std::io;
 use table::{Attention, PATHS, Path, Table, UNITS, Unit};
-use task::map::is_live;
+use task::map::{is_live, with_bit, without_bit};
 use task::{Kind, Phase, RECORDS, Sequel, Task};
-use wire::fields::byte_at;
-
-// The number of an attention: none, reset, cleared by another.
-fn attention_number(a: Attention) -> u8 {
-    match a {
-        Attention::Nothing => 0,
-        Attention::Reset => 1,
-        Attention::Cleared => 2,
-    }
-}
 
 // Whether a path is all zero.
 fn no_path(a: Path) -> bool {
-    if a.id != 0 {
-        return false;
-    }
-    if a.full {
-        return false;
-    }
-    let pending = a.attention;
-    attention_number(pending) == 0
+    a.id == 0 && !a.full && matches!(a.attention, Attention::Nothing)
 }
 
 // A path's id, mark and attention.
 fn path_fields(rt: &impl Print, a: Path) -> io::Result<()> {
-    hex_long(rt, a.id)?;
-    word_if(rt, b" full", a.full)?;
+    print!(rt; "{:08X}", a.id)?;
+    word_if(rt, " full", a.full)?;
     let pending = a.attention;
     match pending {
         Attention::Nothing => Ok(()),
-        Attention::Reset => text(rt, b" reset"),
-        Attention::Cleared => text(rt, b" cleared"),
+        Attention::Reset => print!(rt; " reset"),
+        Attention::Cleared => print!(rt; " cleared"),
     }
 }
 
-// The path at a place, where it is listed or not all zero.
-fn show_path(rt: &impl Print, count: u8, p: usize, a: Path) -> io::Result<()> {
-    if p < count as usize {
-        text(rt, b"; path ")?;
-        return path_fields(rt, a);
-    }
-    if no_path(a) {
-        return Ok(());
-    }
-    text(rt, b"; unused ")?;
-    decimal(rt, p)?;
-    text(rt, b" ")?;
-    path_fields(rt, a)
-}
-
+// The paths that are listed or not all zero.
 fn show_paths(rt: &impl Print, t: Table) -> io::Result<()> {
-    let mut p: usize = 0;
-    while p < PATHS {
-        show_path(rt, t.count, p, t.path_at(p))?;
-        p += 1;
+    for (p, a) in t.paths.iter().enumerate() {
+        if p < t.count as usize {
+            print!(rt; "; path ")?;
+        } else if no_path(*a) {
+            continue;
+        } else {
+            print!(rt; "; unused {p} ")?;
+        }
+        path_fields(rt, *a)?;
     }
     Ok(())
 }
 
-// A unit that has ACA, and the owner's place.
-fn show_unit(rt: &impl Print, u: u8, a: Unit) -> io::Result<()> {
-    match a.aca {
-        None => Ok(()),
-        Some(p) => {
-            counted(rt, b"; aca ", u as u64)?;
-            counted(rt, b" of ", p as u64)
+// The units that have ACA, and the owner's place.
+fn show_units(rt: &impl Print, t: Table) -> io::Result<()> {
+    for (u, a) in t.units.iter().enumerate() {
+        if let Some(p) = a.aca {
+            print!(rt; "; aca {u} of {p}")?;
         }
     }
-}
-
-fn show_units(rt: &impl Print, t: Table) -> io::Result<()> {
-    let mut u: u8 = 0;
-    while u < 8 {
-        show_unit(rt, u, t.unit_at(u))?;
-        u += 1;
-    }
     Ok(())
 }
 
-fn kind_word(rt: &impl Print, k: Kind) -> io::Result<()> {
+fn kind_word(k: Kind) -> &'static str {
     match k {
-        Kind::Aca => text(rt, b" aca"),
-        Kind::Head => text(rt, b" head"),
-        Kind::Ordered => text(rt, b" ordered"),
-        Kind::Simple => text(rt, b" simple"),
+        Kind::Aca => "aca",
+        Kind::Head => "head",
+        Kind::Ordered => "ordered",
+        Kind::Simple => "simple",
     }
 }
 
-fn phase_word(rt: &impl Print, p: Phase) -> io::Result<()> {
+fn phase_word(p: Phase) -> &'static str {
     match p {
-        Phase::Waiting => text(rt, b" waiting "),
-        Phase::Running => text(rt, b" running "),
-        Phase::Unconfirmed => text(rt, b" unconfirmed "),
+        Phase::Waiting => "waiting",
+        Phase::Running => "running",
+        Phase::Unconfirmed => "unconfirmed",
     }
 }
 
-// A record's position, where it is not zero: bytes transferred while the task waits to be confirmed, else an offset.
-fn position_word(rt: &impl Print, p: Phase, position: u64) -> io::Result<()> {
+// A record's position: bytes transferred while the task waits to be confirmed, else an offset.
+fn position_word(p: Phase) -> &'static str {
     match p {
-        Phase::Waiting => counted_if(rt, b" offset ", position),
-        Phase::Running => counted_if(rt, b" offset ", position),
-        Phase::Unconfirmed => counted_if(rt, b" transferred ", position),
+        Phase::Waiting | Phase::Running => " offset ",
+        Phase::Unconfirmed => " transferred ",
     }
 }
 
 // A record's path, tag, unit, kind, phase and arrival number; what it keeps for CONFIRM, where that is not zero.
 fn task_fields(rt: &impl Print, a: Task) -> io::Result<()> {
-    counted(rt, b" path ", a.path as u64)?;
-    text(rt, b" tag ")?;
-    hex_word(rt, a.tag)?;
-    counted(rt, b" unit ", a.unit as u64)?;
-    let kind = a.kind;
-    kind_word(rt, kind)?;
-    let phase = a.phase;
-    phase_word(rt, phase)?;
-    crate::print::number(rt, a.arrival)?;
-    let sequel = a.sequel;
-    word_if(rt, b" confirm", task::has_confirm(sequel))?;
-    position_word(rt, phase, a.position)
+    let (kind, phase, sequel) = (a.kind, a.phase, a.sequel);
+    print!(rt; " path {} tag {:04X} unit {}", a.path, a.tag, a.unit)?;
+    print!(rt; " {} {} {}", kind_word(kind), phase_word(phase), a.arrival)?;
+    word_if(rt, " confirm", task::has_confirm(sequel))?;
+    counted_if(rt, position_word(phase), a.position)
 }
 
-// The record at a place, where it is live or not all zero.
-fn show_task(rt: &impl Print, live: u64, i: usize, a: Task) -> io::Result<()> {
-    if is_live(live, i) {
-        text(rt, b"; task ")?;
-    } else {
-        if sound::clauses::is_no_task(a) {
-            return Ok(());
-        }
-        text(rt, b"; dead ")?;
-    }
-    decimal(rt, i)?;
-    task_fields(rt, a)
-}
-
+// The records that are live or not all zero.
 fn show_tasks(rt: &impl Print, t: Table) -> io::Result<()> {
-    let mut i: usize = 0;
-    while i < RECORDS {
-        show_task(rt, t.live, i, t.task_at(i))?;
-        i += 1;
+    for (i, a) in t.tasks.iter().enumerate() {
+        if is_live(t.live, i) {
+            print!(rt; "; task {i}")?;
+        } else if sound::clauses::is_no_task(*a) {
+            continue;
+        } else {
+            print!(rt; "; dead {i}")?;
+        }
+        task_fields(rt, *a)?;
     }
     Ok(())
 }
 
 // The table: all of it that is not zero.
 pub(crate) fn show(rt: &impl Print, t: Table) -> io::Result<()> {
-    word_if(rt, b"not ", !sound::is_sound(t))?;
-    counted(rt, b"sound next ", t.next)?;
-    counted(rt, b" count ", t.count as u64)?;
-    text(rt, b" attached ")?;
-    hex(rt, t.attached)?;
-    text(rt, b" live ")?;
-    hex_map(rt, t.live)?;
+    word_if(rt, "not ", !sound::is_sound(t))?;
+    print!(rt; "sound next {} count {}", t.next, t.count)?;
+    print!(rt; " attached {:02X} live {:016X}", t.attached, t.live)?;
     show_paths(rt, t)?;
     show_units(rt, t)?;
     show_tasks(rt, t)
 }
 
-// The fields that can be set: of the table, of a path, of a unit, of a record.
-const LIVE: u8 = 1;
-
-const NEXT: u8 = 2;
-
-const COUNT: u8 = 3;
-
-const ATTACHED: u8 = 4;
-
-const ID: u8 = 5;
-
-const MARK: u8 = 6;
-
-const ATTENTION: u8 = 7;
-
-const OWNER: u8 = 8;
-
-const ARRIVAL: u8 = 9;
-
-const TAG: u8 = 10;
-
-const PATH: u8 = 11;
-
-const UNIT: u8 = 12;
-
-const KIND: u8 = 13;
-
-const PHASE: u8 = 14;
-
-const TRANSFERRED: u8 = 15;
-
-const OFFSET: u8 = 16;
-
-const CONFIRM: u8 = 17;
-
-// How many places a field has: 64 live bits and records, 8 paths and units, one of the others; none where there is no
-// such field.
-fn places(field: u8) -> usize {
-    if field == 0 {
-        return 0;
-    }
-    if field == LIVE {
-        return RECORDS;
-    }
-    if field <= ATTACHED {
-        return 1;
-    }
-    if field <= OWNER {
-        return PATHS;
-    }
-    if field <= CONFIRM {
-        return RECORDS;
-    }
-    0
+// A field that can be set.
+#[derive(Clone, Copy)]
+enum Field {
+    Live,
+    Next,
+    Count,
+    Attached,
+    OfPath(PathField),
+    Owner,
+    OfTask(TaskField),
 }
 
-// The table with its live bit, next number, count or mask set.
-fn with_field(mut t: Table, field: u8, i: usize, value: u8) -> Table {
-    if field == NEXT {
-        t.next = arrival(value);
-        return t;
+#[derive(Clone, Copy)]
+enum PathField {
+    Id,
+    Mark,
+    Attention,
+}
+
+#[derive(Clone, Copy)]
+enum TaskField {
+    Arrival,
+    Tag,
+    Path,
+    Unit,
+    Kind,
+    Phase,
+    Transferred,
+    Offset,
+    Confirm,
+}
+
+// The field of a number.
+fn field_of(number: u8) -> Option<Field> {
+    let field = match number {
+        1 => Field::Live,
+        2 => Field::Next,
+        3 => Field::Count,
+        4 => Field::Attached,
+        5 => Field::OfPath(PathField::Id),
+        6 => Field::OfPath(PathField::Mark),
+        7 => Field::OfPath(PathField::Attention),
+        8 => Field::Owner,
+        9 => Field::OfTask(TaskField::Arrival),
+        10 => Field::OfTask(TaskField::Tag),
+        11 => Field::OfTask(TaskField::Path),
+        12 => Field::OfTask(TaskField::Unit),
+        13 => Field::OfTask(TaskField::Kind),
+        14 => Field::OfTask(TaskField::Phase),
+        15 => Field::OfTask(TaskField::Transferred),
+        16 => Field::OfTask(TaskField::Offset),
+        17 => Field::OfTask(TaskField::Confirm),
+        _ => return None,
+    };
+    Some(field)
+}
+
+// How many places a field has: 64 live bits and records, 8 paths and units, one of the others.
+fn places(field: Field) -> usize {
+    match field {
+        Field::Live | Field::OfTask(_) => RECORDS,
+        Field::Next | Field::Count | Field::Attached => 1,
+        Field::OfPath(_) => PATHS,
+        Field::Owner => UNITS,
     }
-    if field == COUNT {
-        t.count = value;
-        return t;
-    }
-    if field == ATTACHED {
-        t.attached = value;
-        return t;
-    }
-    let live = t.live;
-    t.live = task::map::without_bit(live, i);
-    if value != 0 {
-        t.live = task::map::with_bit(live, i);
-    }
-    t
 }
 
 // None, reset, cleared by another.
 fn attention_of(value: u8) -> Attention {
-    if value == 0 {
-        return Attention::Nothing;
+    match value {
+        0 => Attention::Nothing,
+        1 => Attention::Reset,
+        _ => Attention::Cleared,
     }
-    if value == 1 {
-        return Attention::Reset;
-    }
-    Attention::Cleared
-}
-
-fn path_with(a: Path, field: u8, value: u8) -> Path {
-    if field == ID {
-        return Path {
-            id: value as u32,
-            ..a
-        };
-    }
-    if field == MARK {
-        return Path {
-            full: value != 0,
-            ..a
-        };
-    }
-    Path {
-        attention: attention_of(value),
-        ..a
-    }
-}
-
-// The table with a field of the path at place i set.
-fn with_path(mut t: Table, field: u8, i: usize, value: u8) -> Table {
-    if i >= PATHS {
-        return t;
-    }
-    let a = t.paths[i];
-    let b = path_with(a, field, value);
-    t.paths[i] = b;
-    t
 }
 
 // The ACA of an owner, and none for FFh.
 fn aca_of(value: u8) -> Option<u8> {
-    if value == 0xff {
-        return None;
-    }
-    Some(value)
-}
-
-// The table with the ACA of unit i set.
-fn with_aca(mut t: Table, i: usize, value: u8) -> Table {
-    if i >= UNITS {
-        return t;
-    }
-    let b = Unit { aca: aca_of(value) };
-    t.units[i] = b;
-    t
+    (value != 0xff).then_some(value)
 }
 
 // By QUEUE CNTL; 3 and above is SIMPLE.
 fn kind_of(value: u8) -> Kind {
-    if value == 0 {
-        return Kind::Aca;
+    match value {
+        0 => Kind::Aca,
+        1 => Kind::Head,
+        2 => Kind::Ordered,
+        _ => Kind::Simple,
     }
-    if value == 1 {
-        return Kind::Head;
-    }
-    if value == 2 {
-        return Kind::Ordered;
-    }
-    Kind::Simple
 }
 
 // Waiting, running; 2 and above waits to be confirmed.
 fn phase_of(value: u8) -> Phase {
-    if value == 0 {
-        return Phase::Waiting;
-    }
-    if value == 1 {
-        return Phase::Running;
-    }
-    Phase::Unconfirmed
-}
-
-// The record with its path, unit, kind or phase set.
-fn placed_with(a: Task, field: u8, value: u8) -> Task {
-    if field == PATH {
-        return Task { path: value, ..a };
-    }
-    if field == UNIT {
-        return Task { unit: value, ..a };
-    }
-    if field == KIND {
-        return Task {
-            kind: kind_of(value),
-            ..a
-        };
-    }
-    Task {
-        phase: phase_of(value),
-        ..a
+    match value {
+        0 => Phase::Waiting,
+        1 => Phase::Running,
+        _ => Phase::Unconfirmed,
     }
 }
 
 // With CONFIRM or without.
-fn sequel_of(confirm: bool) -> Sequel {
-    if confirm {
-        return Sequel::Confirm;
-    }
-    Sequel::End
-}
-
-// The record with its bytes transferred, its offset or its CONFIRM set. The first two are one field.
-fn kept_with(a: Task, field: u8, value: u8) -> Task {
-    if field == TRANSFERRED {
-        return Task {
-            position: arrival(value),
-            ..a
-        };
-    }
-    if field == OFFSET {
-        return Task {
-            position: value as u64,
-            ..a
-        };
-    }
-    Task {
-        sequel: sequel_of(value != 0),
-        ..a
+fn sequel_of(value: u8) -> Sequel {
+    match value {
+        0 => Sequel::End,
+        _ => Sequel::Confirm,
     }
 }
 
-// The record with a field set.
-fn task_with(a: Task, field: u8, value: u8) -> Task {
-    if field == ARRIVAL {
-        return Task {
-            arrival: arrival(value),
-            ..a
-        };
+// Sets a field of a path.
+fn set_path(a: &mut Path, field: PathField, value: u8) {
+    match field {
+        PathField::Id => a.id = u32::from(value),
+        PathField::Mark => a.full = value != 0,
+        PathField::Attention => a.attention = attention_of(value),
     }
-    if field == TAG {
-        return Task {
-            tag: value as u16,
-            ..a
-        };
-    }
-    if field > PHASE {
-        return kept_with(a, field, value);
-    }
-    placed_with(a, field, value)
 }
 
-// The table with a field of record i set.
-fn with_task(mut t: Table, field: u8, i: usize, value: u8) -> Table {
-    if i >= RECORDS {
-        return t;
+// Sets a field of a record. Its bytes transferred and its offset are one field.
+fn set_task(a: &mut Task, field: TaskField, value: u8) {
+    match field {
+        TaskField::Arrival => a.arrival = arrival(value),
+        TaskField::Tag => a.tag = u16::from(value),
+        TaskField::Path => a.path = value,
+        TaskField::Unit => a.unit = value,
+        TaskField::Kind => a.kind = kind_of(value),
+        TaskField::Phase => a.phase = phase_of(value),
+        TaskField::Transferred => a.position = arrival(value),
+        TaskField::Offset => a.position = u64::from(value),
+        TaskField::Confirm => a.sequel = sequel_of(value),
     }
-    let a = t.tasks[i];
-    let b = task_with(a, field, value);
-    t.tasks[i] = b;
-    t
 }
 
-// The table with a field at place i set.
-fn set(t: Table, field: u8, i: usize, value: u8) -> Table {
-    if field <= ATTACHED {
-        return with_field(t, field, i, value);
+// The map of live records with its bit i set.
+fn live_with(live: u64, i: usize, value: u8) -> u64 {
+    match value {
+        0 => without_bit(live, i),
+        _ => with_bit(live, i),
     }
-    if field <= ATTENTION {
-        return with_path(t, field, i, value);
+}
+
+// Sets a field of the table at place i.
+fn set(t: &mut Table, field: Field, i: usize, value: u8) {
+    match field {
+        Field::Live => t.live = live_with(t.live, i, value),
+        Field::Next => t.next = arrival(value),
+        Field::Count => t.count = value,
+        Field::Attached => t.attached = value,
+        Field::OfPath(of) => {
+            if let Some(a) = t.paths.get_mut(i) {
+                set_path(a, of, value);
+            }
+        }
+        Field::Owner => {
+            if let Some(a) = t.units.get_mut(i) {
+                a.aca = aca_of(value);
+            }
+        }
+        Field::OfTask(of) => {
+            if let Some(a) = t.tasks.get_mut(i) {
+                set_task(a, of, value);
+            }
+        }
     }
-    if field == OWNER {
-        return with_aca(t, i, value);
-    }
-    with_task(t, field, i, value)
 }
 
 // Letter !: a field set, from its number, the place and the value.
-pub(crate) fn poke(rt: &impl Print, t: Table, c: &[u8]) -> io::Result<Table> {
-    if !has(rt, c, 3)? {
-        return Ok(t);
+pub(crate) fn poke(rt: &impl Print, mut t: Table, c: &[u8]) -> io::Result<Table> {
+    let &[number, place, value] = c else {
+        return bad(rt, t);
+    };
+    let i = place as usize;
+    match field_of(number) {
+        Some(field) if i < places(field) => {
+            set(&mut t, field, i, value);
+            print!(rt; "set")?;
+            Ok(t)
+        }
+        _ => bad(rt, t),
     }
-    let field = byte_at(c, 0);
-    let i = byte_at(c, 1) as usize;
-    if i >= places(field) {
-        bad_case(rt)?;
-        return Ok(t);
-    }
-    text(rt, b"set")?;
-    Ok(set(t, field, i, byte_at(c, 2)))
 }

@@ -3,31 +3,25 @@
 // alone. tools/stack reads the built program.
 #![tactic(auto)]
 
-ghost use Rattle.std.specs.Prelude.{◌≤◌, length, IfOk};
-
 use engine::calls::{finish, message, setup, start, total_reset};
 use std::io;
 use std::io::Read;
 use table::Table;
 use task::map::live_count;
 
-fn wide(b: u8) -> u64 {
-    b as u64
-}
-
 // The five calls, each with some of the bytes.
 fn calls(b: [u8; 64], reply: &mut [u8; 64]) -> Table {
-    let o = setup(&[b[0] as u32, b[1] as u32], b[2], wide(b[3]));
+    let o = setup(&[u32::from(b[0]), u32::from(b[1])], b[2], u64::from(b[3]));
     let o = message(o.table, &b, reply);
     let o = start(o.table, b[4]);
     let o = finish(
         o.table,
-        wide(b[5]),
+        u64::from(b[5]),
         b[6],
         b[7],
         b[8],
         b[9],
-        wide(b[19]),
+        u64::from(b[19]),
         reply,
     );
     let o = total_reset(o.table);
@@ -36,18 +30,18 @@ fn calls(b: [u8; 64], reply: &mut [u8; 64]) -> Table {
 
 // The same calls, with other bytes and in another order.
 fn calls_again(b: [u8; 64], reply: &mut [u8; 64]) -> Table {
-    let o = setup(&[b[10] as u32], b[11], wide(b[12]));
+    let o = setup(&[u32::from(b[10])], b[11], u64::from(b[12]));
     let o = total_reset(o.table);
     let o = message(o.table, &b, reply);
     let o = start(o.table, b[13]);
     let o = finish(
         o.table,
-        wide(b[14]),
+        u64::from(b[14]),
         b[15],
         b[16],
         b[17],
         b[18],
-        wide(b[20]),
+        u64::from(b[20]),
         reply,
     );
     o.table
@@ -58,24 +52,13 @@ fn say(rt: &impl Print, word: &[u8], t: Table) -> io::Result<()> {
     rt.print(live_count(t.live) as u64)
 }
 
-// Fills the buffer from its front until it is full or the input ends, and answers how many bytes were read.
-fn read_full(from: &mut impl Read, buf: &mut [u8]) -> io::Result<usize>
-    ensures { IfOk result (λ n. n ≤ length buf.new) }
-{
-    let mut done = 0;
-    while done < buf.len() {
-        let n = from.read(&mut buf[done..])?;
-        if n == 0 {
-            break;
-        }
-        done += n;
-    }
-    Ok(done)
-}
-
 fn main(rt: HostRuntime) -> io::Result<()> {
+    let mut input = Vec::new(rt.alloc());
+    rt.reader().take(64).read_to_end(&mut input)?;
     let mut b = [0u8; 64];
-    read_full(&mut rt.reader(), &mut b)?;
+    for (to, from) in b.iter_mut().zip(&input) {
+        *to = *from;
+    }
     let mut reply = [0u8; 64];
     say(&rt, b"live ", calls(b, &mut reply))?;
     say(&rt, b" ", calls_again(b, &mut reply))?;

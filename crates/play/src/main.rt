@@ -2,19 +2,19 @@
 // last line.
 #![tactic(auto)]
 
-ghost use Rattle.std.specs.Prelude.{◌≤◌, length, IfOk};
-
 use std::io;
 use std::io::Read;
 use transcript::play::Player;
+
+// How much of the input is read: a byte more than the longest has.
+const MOST: u64 = 65537;
 
 // Plays the input. Before the events stands a header of four bytes at least, and an event has one at least: so a turn
 // for each byte is enough to come to the end.
 fn play(rt: &impl Print, s: &[u8]) -> io::Result<()> {
     let mut line = [0u8; 64];
     let mut p = transcript::play::open(s);
-    let mut left: usize = s.len();
-    while left > 0 {
+    for _ in s {
         let step = transcript::play::advance(p, s, &mut line);
         p = step.player;
         let wrote = step.wrote;
@@ -22,7 +22,6 @@ fn play(rt: &impl Print, s: &[u8]) -> io::Result<()> {
             break;
         }
         put(rt, &line, wrote)?;
-        left -= 1;
     }
     close(rt, p)
 }
@@ -36,29 +35,11 @@ fn close(rt: &impl Print, p: Player) -> io::Result<()> {
 
 // Writes the first n bytes of a line.
 fn put(rt: &impl Print, line: &[u8], n: usize) -> io::Result<()> {
-    if n <= line.len() {
-        rt.write_all(&line[..n])?;
-    }
-    Ok(())
-}
-
-// Fills the buffer from its front until it is full or the input ends, and answers how many bytes were read.
-fn read_full(from: &mut impl Read, buf: &mut [u8]) -> io::Result<usize>
-    ensures { IfOk result (λ n. n ≤ length buf.new) }
-{
-    let mut done = 0;
-    while done < buf.len() {
-        let n = from.read(&mut buf[done..])?;
-        if n == 0 {
-            break;
-        }
-        done += n;
-    }
-    Ok(done)
+    rt.write_all(line.get(..n).unwrap_or_default())
 }
 
 fn main(rt: HostRuntime) -> io::Result<()> {
-    let mut input = [0u8; 65537];
-    let n = read_full(&mut rt.reader(), &mut input)?;
-    play(&rt, &input[..n])
+    let mut input = Vec::new(rt.alloc());
+    rt.reader().take(MOST).read_to_end(&mut input)?;
+    play(&rt, &input)
 }

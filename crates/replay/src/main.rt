@@ -2,56 +2,28 @@
 // The file `names` has one name a line; NAME.in is an input, NAME.out its text.
 #![tactic(auto)]
 
-ghost use Rattle.std.specs.Prelude.{◌≤◌, length, IfOk};
-
+use std::alloc::{AllocError, Allocator};
 use std::io::Read;
 use std::rt::Files;
 use std::{fs, io};
 use transcript::play::Player;
 
-fn say(rt: &impl Print, text: &[u8]) -> io::Result<()> {
-    rt.write_all(text)
-}
+// How much is read of an input, a byte more than the longest has; of a text; and of the names.
+const INPUT: u64 = 65537;
 
-fn say_number(rt: &impl Print, n: usize) -> io::Result<()> {
-    rt.print(n as u64)
-}
+const TEXT: u64 = 65536;
 
-// The part from one place up to another, and an empty one where that is none.
-fn part(s: &[u8], from: usize, until: usize) -> &[u8] {
-    if from > until {
-        return &s[..0];
-    }
-    if until > s.len() {
-        return &s[..0];
-    }
-    &s[from..until]
-}
+const NAMES: u64 = 4096;
 
-// The place after the line that a place is in.
-fn line_after(s: &[u8], at: usize) -> usize {
-    let mut i = at;
-    while i < s.len() {
-        if s[i] == b'\n' {
-            return i + 1;
-        }
-        i += 1;
-    }
-    s.len()
-}
+// The most bytes of a file's path.
+const PATH: usize = 63;
 
-fn same(a: &[u8], b: &[u8]) -> bool {
-    if a.len() != b.len() {
-        return false;
+// The first line with its end, and what stands behind it.
+fn first_line(text: &[u8]) -> (&[u8], &[u8]) {
+    match text.iter().position(|b| *b == b'\n') {
+        Some(end) => text.split_at(end + 1),
+        None => (text, b""),
     }
-    let mut i: usize = 0;
-    while i < a.len() {
-        if a[i] != b[i] {
-            return false;
-        }
-        i += 1;
-    }
-    true
 }
 
 // Whether a line is the expected one; says where it is not.
@@ -62,15 +34,13 @@ fn agrees(
     expected: &[u8],
     printed: &[u8],
 ) -> io::Result<bool> {
-    if same(expected, printed) {
+    if expected == printed {
         return Ok(true);
     }
-    say(rt, name)?;
-    say(rt, b" differs at line ")?;
-    say_number(rt, number)?;
-    say(rt, b"\n")?;
-    say(rt, expected)?;
-    say(rt, printed)?;
+    rt.write_all(name)?;
+    println!(rt; " differs at line {number}")?;
+    rt.write_all(expected)?;
+    rt.write_all(printed)?;
     Ok(false)
 }
 
@@ -79,140 +49,95 @@ fn agrees(
 fn plays(rt: &impl Print, name: &[u8], s: &[u8], text: &[u8]) -> io::Result<bool> {
     let mut line = [0u8; 64];
     let mut p = transcript::play::open(s);
-    let mut at: usize = 0;
-    let mut number: usize = 1;
-    while number < s.len() {
+    let mut rest = text;
+    for number in 1..s.len() {
         let step = transcript::play::advance(p, s, &mut line);
         p = step.player;
         let wrote = step.wrote;
         if wrote == 0 {
-            break;
+            return closes(rt, name, number, p, rest);
         }
-        let next = line_after(text, at);
-        if !agrees(
-            rt,
-            name,
-            number,
-            part(text, at, next),
-            part(&line, 0, wrote),
-        )? {
+        let (expected, behind) = first_line(rest);
+        if !agrees(rt, name, number, expected, front(&line, wrote))? {
             return Ok(false);
         }
-        at = next;
-        number += 1;
+        rest = behind;
     }
-    closes(rt, name, number, p, part(text, at, text.len()))
+    closes(rt, name, s.len().max(1), p, rest)
 }
 
 // Whether the last line is all that is left of the text.
 fn closes(rt: &impl Print, name: &[u8], number: usize, p: Player, rest: &[u8]) -> io::Result<bool> {
     let mut line = [0u8; 64];
     let wrote = transcript::play::close(p, &mut line);
-    agrees(rt, name, number, rest, part(&line, 0, wrote))
+    agrees(rt, name, number, rest, front(&line, wrote))
 }
 
-// Puts a word into a path, and answers the place after it.
-fn put(path: &mut [u8], at: usize, word: &[u8]) -> usize {
-    let mut to = at;
-    let mut i: usize = 0;
-    while i < word.len() {
-        if to >= path.len() {
-            return to;
-        }
-        path[to] = word[i];
-        to += 1;
-        i += 1;
+// The first n bytes of a line.
+fn front(line: &[u8], n: usize) -> &[u8] {
+    line.get(..n).unwrap_or_default()
+}
+
+// Opens the file of a name; one whose path is too long or is no text is missing.
+fn open<R: Files + Alloc>(rt: &R, name: &[u8], ending: &str) -> io::Result<Option<R::File>> {
+    let Ok(name) = str::from_utf8(name) else {
+        return Ok(None);
+    };
+    let path = format!(in rt.alloc(); "{name}{ending}")?;
+    if path.len() > PATH {
+        return Ok(None);
     }
-    to
+    Ok(fs::open(rt, path.as_str()).ok())
 }
 
-// Opens the file of a name; one whose path does not fit or is no text is missing.
-fn open<R: Files>(rt: &R, name: &[u8], ending: &[u8]) -> Option<R::File> {
-    let mut path = [0u8; 64];
-    let n = put(&mut path, 0, name);
-    let n = put(&mut path, n, ending);
-    if n >= 64 {
-        return None;
-    }
-    let path = str::from_utf8(part(&path, 0, n)).ok()?;
-    fs::open(rt, path).ok()
-}
-
-// Fills the buffer from its front until it is full or the input ends, and answers how many bytes were read.
-fn read_full(from: &mut impl Read, buf: &mut [u8]) -> io::Result<usize>
-    ensures { IfOk result (λ n. n ≤ length buf.new) }
-{
-    let mut done = 0;
-    while done < buf.len() {
-        let n = from.read(&mut buf[done..])?;
-        if n == 0 {
-            break;
-        }
-        done += n;
-    }
-    Ok(done)
-}
-
-// Reads a file, and closes it.
-fn read(mut file: impl Read + Drop, buf: &mut [u8]) -> io::Result<usize> {
-    read_full(&mut file, buf)
+// Reads so many bytes of a file at most, and closes it.
+fn read<R: Alloc>(rt: &R, file: impl Read + Drop, most: u64) -> io::Result<Vec<u8, R::A>> {
+    let mut bytes = Vec::new(rt.alloc());
+    file.take(most).read_to_end(&mut bytes)?;
+    Ok(bytes)
 }
 
 // One transcript: whether it is the same.
-fn replay(rt: &(impl Files + Print), name: &[u8]) -> io::Result<bool> {
-    let input = open(rt, name, b".in");
-    let output = open(rt, name, b".out");
+fn replay(rt: &(impl Files + Print + Alloc), name: &[u8]) -> io::Result<bool> {
+    let input = open(rt, name, ".in")?;
+    let output = open(rt, name, ".out")?;
     let (Some(input), Some(output)) = (input, output) else {
-        say(rt, name)?;
-        say(rt, b" missing\n")?;
+        rt.write_all(name)?;
+        rt.write_all(b" missing\n")?;
         return Ok(false);
     };
-    let mut s = [0u8; 65537];
-    let mut text = [0u8; 65536];
-    let n = read(input, &mut s)?;
-    let m = read(output, &mut text)?;
-    if !plays(rt, name, part(&s, 0, n), part(&text, 0, m))? {
+    let s = read(rt, input, INPUT)?;
+    let text = read(rt, output, TEXT)?;
+    if !plays(rt, name, &s, &text)? {
         return Ok(false);
     }
-    say(rt, name)?;
-    say(rt, b" same\n")?;
+    rt.write_all(name)?;
+    rt.write_all(b" same\n")?;
     Ok(true)
 }
 
-// A line without its end.
-fn bare(line: &[u8]) -> &[u8] {
-    if line.len() == 0 {
-        return line;
-    }
-    part(line, 0, line.len() - 1)
+// The names: each line without its end.
+fn names_of<A: Allocator>(alloc: A, text: &[u8]) -> Result<Vec<&[u8], A>, AllocError> {
+    let lines = text.split_inclusive(|b| *b == b'\n');
+    lines
+        .filter_map(|line| Some(line.split_last()?.1))
+        .collect(alloc)
 }
 
-fn replay_all(rt: &(impl Files + Print), names: &[u8]) -> io::Result<()> {
-    let mut at: usize = 0;
-    let mut all: usize = 0;
+fn replay_all(rt: &(impl Files + Print + Alloc), names: &[&[u8]]) -> io::Result<()> {
     let mut good: usize = 0;
-    while at < names.len() {
-        let next = line_after(names, at);
-        if next <= at {
-            break;
-        }
-        if replay(rt, bare(part(names, at, next)))? {
+    for name in names {
+        if replay(rt, name)? {
             good += 1;
         }
-        all += 1;
-        at = next;
     }
-    say_number(rt, all)?;
-    say(rt, b" transcripts, ")?;
-    say_number(rt, good)?;
-    say(rt, b" same\n")
+    println!(rt; "{} transcripts, {good} same", names.len())
 }
 
 fn main(rt: HostRuntime) -> io::Result<()> {
     let Ok(file) = fs::open(&rt, "names") else {
-        return say(&rt, b"names missing\n");
+        return rt.write_all(b"names missing\n");
     };
-    let mut names = [0u8; 4096];
-    let n = read(file, &mut names)?;
-    replay_all(&rt, part(&names, 0, n))
+    let text = read(&rt, file, NAMES)?;
+    replay_all(&rt, &names_of(rt.alloc(), &text)?)
 }

@@ -1,46 +1,38 @@
 // The messages that are sent. A path's id is one byte here.
-const SMS_CODE: u8 = 0x83;
+ghost use Rattle.std.specs.Prelude.{◌≤◌};
 
-const COMMAND: u8 = 0x10;
+use wire::codes::{ABORT_TASK, CLEAR_TASK_SET, INQUIRY, Queue, SCSI_COMMAND, SMS_CODE};
 
-const ABORT_TASK: u8 = 0x30;
-
-const CLEAR_TASK_SET: u8 = 0x32;
-
-const SIMPLE: u8 = 3;
-
-const INQUIRY: u8 = 0x12;
+// A message of N bytes that are zero but for its S3P CODE and its path.
+fn message<const N: usize>(code: u8, path: u8) -> [u8; N]
+    requires { 8 ≤ N }
+{
+    let mut m = [0; N];
+    m[0] = SMS_CODE;
+    m[1] = code;
+    m[7] = path;
+    m
+}
 
 // A SCSI COMMAND to unit 0. INQUIRY is accepted while the reset attention is pending.
 pub(crate) fn command(path: u8, tag: u16) -> [u8; 22] {
-    let mut m = [0; 22];
-    m[0] = SMS_CODE;
-    m[1] = COMMAND;
-    m[2] = (tag / 256) as u8;
-    m[3] = (tag % 256) as u8;
-    m[7] = path;
-    m[10] = SIMPLE;
+    let mut m = message(SCSI_COMMAND, path);
+    [m[2], m[3]] = tag.to_be_bytes();
+    m[10] = Queue::SIMPLE.0;
     m[16] = INQUIRY;
     m
 }
 
 // An ABORT TASK of the path's task that has the tag. Its own TAG is 0.
 pub(crate) fn abort_task(path: u8, tag: u16) -> [u8; 10] {
-    let mut m = [0; 10];
-    m[0] = SMS_CODE;
-    m[1] = ABORT_TASK;
-    m[7] = path;
-    m[8] = (tag / 256) as u8;
-    m[9] = (tag % 256) as u8;
+    let mut m = message(ABORT_TASK, path);
+    [m[8], m[9]] = tag.to_be_bytes();
     m
 }
 
 // A CLEAR TASK SET of a unit. Its TAG is 0.
 pub(crate) fn clear_task_set(path: u8, unit: u8) -> [u8; 9] {
-    let mut m = [0; 9];
-    m[0] = SMS_CODE;
-    m[1] = CLEAR_TASK_SET;
-    m[7] = path;
+    let mut m = message(CLEAR_TASK_SET, path);
     m[8] = unit;
     m
 }

@@ -2,11 +2,10 @@
 // stop.
 use plan::Answer;
 use std::io;
-use std::num::wrapping_add_u64;
 use task::map::live_count;
 use wire::codes::ReturnCode;
 
-#[derive(Clone, Copy)]
+#[derive(Clone, Copy, Default)]
 pub struct Tally {
     pub accepted: u64,
     pub done: u64,
@@ -16,73 +15,48 @@ pub struct Tally {
     pub stopped: u64,
 }
 
-pub(crate) fn empty() -> Tally {
-    Tally {
-        accepted: 0,
-        done: 0,
-        overlapped: 0,
-        not_found: 0,
-        ended: 0,
-        stopped: 0,
-    }
+// Adds to a count.
+fn count(n: &mut u64, more: u64) {
+    *n = n.wrapping_add(more);
 }
 
-// A RESPONSE more, by its RETURN CODE.
-fn response(t: Tally, code: u8) -> Tally {
-    if code == ReturnCode::DONE.0 {
-        return Tally {
-            done: wrapping_add_u64(t.done, 1),
-            ..t
-        };
+impl Tally {
+    // A RESPONSE more, by its RETURN CODE.
+    fn response(&mut self, code: ReturnCode) {
+        if code == ReturnCode::DONE {
+            count(&mut self.done, 1);
+        } else if code == ReturnCode::OVERLAPPED {
+            count(&mut self.overlapped, 1);
+        } else if code == ReturnCode::TASK_NOT_FOUND {
+            count(&mut self.not_found, 1);
+        }
     }
-    if code == ReturnCode::OVERLAPPED.0 {
-        return Tally {
-            overlapped: wrapping_add_u64(t.overlapped, 1),
-            ..t
-        };
-    }
-    if code == ReturnCode::TASK_NOT_FOUND.0 {
-        return Tally {
-            not_found: wrapping_add_u64(t.not_found, 1),
-            ..t
-        };
-    }
-    t
-}
 
-// An answer more. A RESPONSE counts by its byte in the reply buffer, so that no compiler can leave the reply out.
-pub(crate) fn add(t: Tally, a: Answer, reply: &[u8; 64]) -> Tally {
-    match a {
-        Answer::Accepted(_) => Tally {
-            accepted: wrapping_add_u64(t.accepted, 1),
-            ..t
-        },
-        Answer::Reply(_) => response(t, reply[4]),
-        _ => t,
+    // An answer more. A RESPONSE counts by its byte in the reply buffer, so that no compiler can leave the reply out.
+    pub(crate) fn add(&mut self, a: Answer, reply: &[u8; 64]) {
+        match a {
+            Answer::Accepted(_) => count(&mut self.accepted, 1),
+            Answer::Reply(_) => self.response(ReturnCode(reply[4])),
+            _ => {}
+        }
     }
-}
 
-// What a message ended is added. Both maps count, so that no compiler can leave them out.
-pub(crate) fn add_ended(t: Tally, ended: u64, stops: u8) -> Tally {
-    Tally {
-        ended: wrapping_add_u64(t.ended, live_count(ended) as u64),
-        stopped: wrapping_add_u64(t.stopped, live_count(stops as u64) as u64),
-        ..t
+    // What a message ended is added. Both maps count, so that no compiler can leave them out.
+    pub(crate) fn add_ended(&mut self, ended: u64, stops: u8) {
+        count(&mut self.ended, live_count(ended) as u64);
+        count(&mut self.stopped, live_count(stops as u64) as u64);
     }
-}
 
-// A word, and the number behind it.
-pub(crate) fn say(rt: &impl Print, word: &[u8], n: u64) -> io::Result<()> {
-    rt.write_all(word)?;
-    rt.print(n)
-}
-
-// The numbers.
-pub(crate) fn say_all(rt: &impl Print, t: Tally) -> io::Result<()> {
-    say(rt, b"accepted ", t.accepted)?;
-    say(rt, b" 00h ", t.done)?;
-    say(rt, b" 04h ", t.overlapped)?;
-    say(rt, b" 01h ", t.not_found)?;
-    say(rt, b" ended ", t.ended)?;
-    say(rt, b" stopped ", t.stopped)
+    // The numbers, each behind its word.
+    pub(crate) fn say(&self, rt: &impl Print) -> io::Result<()> {
+        let t = *self;
+        print!(rt;
+            "accepted {} 00h {} 04h {}",
+            t.accepted, t.done, t.overlapped
+        )?;
+        print!(rt;
+            " 01h {} ended {} stopped {}",
+            t.not_found, t.ended, t.stopped
+        )
+    }
 }

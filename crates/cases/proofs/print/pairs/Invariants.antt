@@ -1,6 +1,0 @@
--- `cases::print::pairs` is safe and ends. Assumes nothing.
-use Rattle.std.proofs.Common.{◌-◌, length}
-use Rattle.cases.proofs.print.pairs.Given as goal
-
-abbrev pub decreases-loop-i : goal.decreases-loop-i
-decreases-loop-i g l = length l.bytes - l.i

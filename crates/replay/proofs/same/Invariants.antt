@@ -1,9 +1,0 @@
--- `replay::same` is safe and ends: the bytes left fall to 0. Assumes nothing.
-use Rattle.std.proofs.Common.{◌≡◌, ◌-◌, length}
-use Rattle.replay.proofs.same.Given as goal
-
-abbrev pub invariant-loop-i : goal.invariant-loop-i
-invariant-loop-i l = length l.a ≡ length l.b
-
-abbrev pub decreases-loop-i : goal.decreases-loop-i
-decreases-loop-i l = length l.a - l.i
