@@ -22,7 +22,7 @@ pub(crate) fn bad_case(rt: &impl Print) -> io::Result<()> {
 
 // A refusal by its number.
 pub(crate) fn refused(rt: &impl Print, r: Refusal) -> io::Result<()> {
-    print!(rt; "refused {}", r.0)
+    print!(rt; "refused {}", r.number())
 }
 
 // A message's name, and the fields that every message has.
@@ -40,11 +40,10 @@ fn with_lun(rt: &impl Print, name: &str, tag: u16, path: u32, lun: u8) -> io::Re
 fn flags_of(rt: &impl Print, f: Flags) -> io::Result<()> {
     print!(rt; " ddrm {} oot {}", f.ddrm as u8, f.oot as u8)?;
     print!(rt; " resume {} confirm {}", f.resume as u8, f.confirm as u8)?;
-    let queue = f.queue;
-    print!(rt; " queue {}", queue.0)
+    print!(rt; " queue {}", f.queue.number())
 }
 
-// A message with its fields, or the refusal. The path of CONFIRM STATUS is OLD RETURN PATH ID.
+// A message with its fields. The path of CONFIRM STATUS is OLD RETURN PATH ID.
 fn fields(rt: &impl Print, m: Message) -> io::Result<()> {
     match m {
         Message::Command {
@@ -78,18 +77,18 @@ fn fields(rt: &impl Print, m: Message) -> io::Result<()> {
         Message::UnitReset { tag, path, lun } => {
             with_lun(rt, "logical unit reset", tag, path, lun)
         }
-        Message::Refused(r) => refused(rt, r),
     }
 }
 
 // Letter m: the message reader, and whether a reserved field is set.
 fn message(rt: &impl Print, m: &[u8]) -> io::Result<()> {
-    let read = wire::message::read(m);
-    fields(rt, read)?;
-    if let Message::Refused(_) = read {
-        return Ok(());
+    match wire::message::read(m) {
+        Ok(read) => {
+            fields(rt, read)?;
+            word_if(rt, " reserved", reserved_set(m))
+        }
+        Err(why) => refused(rt, why),
     }
-    word_if(rt, " reserved", reserved_set(m))
 }
 
 // Letter b: the command block, and what the rules ask of it.
@@ -179,7 +178,7 @@ fn read_reply(rt: &impl Print, b: &[u8]) -> io::Result<()> {
 fn verdict(rt: &impl Print, b: &[u8]) -> io::Result<()> {
     match reply::read(b) {
         Ok(r) => reply_fields(rt, r),
-        Err(why) => print!(rt; "{}", why.0),
+        Err(why) => print!(rt; "{}", why.number()),
     }
 }
 

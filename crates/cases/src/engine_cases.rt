@@ -10,6 +10,7 @@ use std::io;
 use table::{LAST_ARRIVAL, Table};
 use task::scan::Pick;
 use task::select::Selection;
+use wire::codes::Refusal;
 
 // The arrival number, or the number of bytes transferred, that a byte stands for: FEh for 2^64 - 2, FFh for 2^64 - 1.
 pub(crate) fn arrival(b: u8) -> u64 {
@@ -39,19 +40,19 @@ fn say_reply(rt: &impl Print, r: Reply) -> io::Result<()> {
 }
 
 // An answer in the words of a transcript, and `ready` for a setup. A start has the offset behind it that is handed back.
-fn say(rt: &impl Print, a: Answer) -> io::Result<()> {
+fn say(rt: &impl Print, a: Result<Answer, Refusal>) -> io::Result<()> {
     match a {
-        Answer::Ready => print!(rt; "ready"),
-        Answer::Accepted(n) => print!(rt; "accepted {n}"),
-        Answer::Reply(r) => say_reply(rt, r),
-        Answer::Started { offset, arrival } => {
+        Ok(Answer::Ready) => print!(rt; "ready"),
+        Ok(Answer::Accepted(n)) => print!(rt; "accepted {n}"),
+        Ok(Answer::Reply(r)) => say_reply(rt, r),
+        Ok(Answer::Started { offset, arrival }) => {
             print!(rt; "started {arrival}")?;
             counted_if(rt, " offset ", offset)
         }
-        Answer::Confirmed(n) => print!(rt; "confirmed {n}"),
-        Answer::Restarted(n) => print!(rt; "restarted {n}"),
-        Answer::Reset => print!(rt; "reset"),
-        Answer::Refused(r) => refused(rt, r),
+        Ok(Answer::Confirmed(n)) => print!(rt; "confirmed {n}"),
+        Ok(Answer::Restarted(n)) => print!(rt; "restarted {n}"),
+        Ok(Answer::Reset) => print!(rt; "reset"),
+        Err(r) => refused(rt, r),
     }
 }
 
@@ -69,7 +70,7 @@ fn told(rt: &impl Print, o: Outcome) -> io::Result<Table> {
 }
 
 // The answer, and the path that the reply goes to.
-fn say_to(rt: &impl Print, a: Answer, to: u32) -> io::Result<()> {
+fn say_to(rt: &impl Print, a: Result<Answer, Refusal>, to: u32) -> io::Result<()> {
     say(rt, a)?;
     print!(rt; " to {to:08X}")
 }
@@ -168,12 +169,11 @@ fn reset(rt: &impl Print, t: Table, c: &[u8]) -> io::Result<Table> {
 }
 
 // A task's arrival number and the place of its record.
-fn say_pick(rt: &impl Print, p: Pick) -> io::Result<()> {
-    if !p.found {
-        return print!(rt; "nobody");
+fn say_pick(rt: &impl Print, p: Option<Pick>) -> io::Result<()> {
+    match p {
+        Some(p) => print!(rt; "next {} at {}", p.task.arrival, p.at),
+        None => print!(rt; "nobody"),
     }
-    let a = p.task;
-    print!(rt; "next {} at {}", a.arrival, p.at)
 }
 
 // Letter N: what goes next on the unit, of the waiting tasks.

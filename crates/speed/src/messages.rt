@@ -1,7 +1,7 @@
 // The messages that are sent. A path's id is one byte here.
 ghost use Rattle.std.specs.Prelude.{◌≤◌};
 
-use wire::codes::{ABORT_TASK, CLEAR_TASK_SET, INQUIRY, Queue, SCSI_COMMAND, SMS_CODE};
+use wire::codes::{ABORT_TASK, CLEAR_TASK_SET, INQUIRY, Kind, SCSI_COMMAND, SMS_CODE};
 
 // A message of N bytes that are zero but for its S3P CODE and its path.
 fn message<const N: usize>(code: u8, path: u8) -> [u8; N]
@@ -18,7 +18,7 @@ fn message<const N: usize>(code: u8, path: u8) -> [u8; N]
 pub(crate) fn command(path: u8, tag: u16) -> [u8; 22] {
     let mut m = message(SCSI_COMMAND, path);
     [m[2], m[3]] = tag.to_be_bytes();
-    m[10] = Queue::SIMPLE.0;
+    m[10] = Kind::Simple.number();
     m[16] = INQUIRY;
     m
 }

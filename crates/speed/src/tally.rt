@@ -3,7 +3,7 @@
 use plan::Answer;
 use std::io;
 use task::map::live_count;
-use wire::codes::ReturnCode;
+use wire::codes::{Refusal, ReturnCode};
 
 #[derive(Clone, Copy, Default)]
 pub struct Tally {
@@ -33,10 +33,10 @@ impl Tally {
     }
 
     // An answer more. A RESPONSE counts by its byte in the reply buffer, so that no compiler can leave the reply out.
-    pub(crate) fn add(&mut self, a: Answer, reply: &[u8; 64]) {
+    pub(crate) fn add(&mut self, a: Result<Answer, Refusal>, reply: &[u8; 64]) {
         match a {
-            Answer::Accepted(_) => count(&mut self.accepted, 1),
-            Answer::Reply(_) => self.response(ReturnCode(reply[4])),
+            Ok(Answer::Accepted(_)) => count(&mut self.accepted, 1),
+            Ok(Answer::Reply(_)) => self.response(ReturnCode(reply[4])),
             _ => {}
         }
     }

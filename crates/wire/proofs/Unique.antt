@@ -11,6 +11,7 @@ determined h l = h ∙ sym l
 pub answers_are_one : AnswersAreOne
 answers_are_one = record {
   number_is_one = λ _ _ _. determined;
+  kind_number_is_one = λ _ _ _. determined;
   kind_from_is_one = λ _ _ _. determined;
   byte_at_is_one = λ _ _ _ _. determined;
   copy_is_one = λ bytes to x y k l c a d b. let e : x ≡ y = determined c d in (e, a ∙ ap (λ (n : ℕ). take n bytes ++ drop n to) e ∙ sym b);

@@ -1,7 +1,7 @@
 // The numbers of page 01 and 003, those of a type as its associated constants. specs/Codes.antt has them under the
 // same names and says when each is meant.
 ghost use Rattle.std.specs.Prelude.{◌≡◌};
-ghost use Rattle.wire.specs.Codes.{refusal_number, kind_of};
+ghost use Rattle.wire.specs.Codes.{refusal_number, kind_number, kind_of};
 
 // The reply buffer that every call with a reply asks for.
 pub const REPLY_ROOM: usize = 64;
@@ -183,6 +183,20 @@ pub enum Kind {
     Head,
     Ordered,
     Simple,
+}
+
+impl Kind {
+    // Its number in the field.
+    pub fn number(self) -> u8
+        ensures { result ≡ kind_number self }
+    {
+        match self {
+            Kind::Aca => 0,
+            Kind::Head => 1,
+            Kind::Ordered => 2,
+            Kind::Simple => 3,
+        }
+    }
 }
 
 // The kind that the field's number says: it has two bits, so the last is number 3.
