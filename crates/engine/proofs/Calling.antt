@@ -60,17 +60,14 @@ use Rattle.plan.specs.declared.Plan.{Plan}
 use Rattle.plan.proofs.Promises.{others_unasked, tasks_unasked}
 use Rattle.plan.specs.declared.Answer.{Answer}
 use Rattle.plan.specs.declared.Answer.TheVariants as answer
-use Rattle.engine.specs.Calls.{out, refused, heard_of, sender_of, lookup_for, plan_at, plan_for, with_records, carried_out, reply_path, stops_for, carried, answered_to, message_of, settled, closed, rejected, may_go, choice_on, start_verdict, start_of, may_finish, failed, finish_verdict, reports, finish_of, total_reset_of, setup_of, replied, Answers, is_accepted}
+use Rattle.engine.specs.Calls.{out, refused, heard_of, lookup_for, plan_at, plan_for, with_records, carried_out, reply_path, stops_for, carried, answered_to, message_of, may_go, choice_on, goes, start_choice, start_of, may_finish, sent_sense, failed, finish_choice, finishes, finish_of, total_reset_of, setup_of, replied, Answers, is_accepted}
+use Rattle.reply.specs.declared.Reply.TheVariants as reply
 use Rattle.engine.specs.Steps.{step_of, chosen_by, judged_by}
+use Rattle.std.specs.Option.{ok_or}
+use Rattle.wire.proofs.Results.{same_Ok, err-ok}
 use Rattle.engine.specs.declared.Outcome.{Outcome}
-use Rattle.engine.specs.declared.calls.Verdict.{Verdict}
 
 -- ---- a message
-
--- the plan for what was heard
-unfoldable pub plan_heard : Table → List ℕ → Result Asked Refusal → Plan
-plan_heard t m (Err n) = refusing n
-plan_heard t m (Ok a) = plan_for t m a.path a.tag a.request
 
 -- who else has a task on the unit is asked only where the plan goes by it
 others_alike : (t : Table) (m : List ℕ) (p tag next : ℕ) (w : Request) → goes_by_unit w ≡ false
@@ -102,21 +99,17 @@ unfolding lookup_of facts_of unit_alone
 unit_alike t m p tag next u o b f w y e k h g =
     tasks_unasked (unit_alone f o) (lookup_for t p tag w) next p tag m w y (e ∙ ap (is_attached t) k) (λ c. g ∙ rw (h, c, k))
 
-module _ (t : Table) (m : List ℕ) {a : Result Asked Refusal} {pl : Plan} where
-  pub unread : {n : Refusal} → a ≡ Err n → pl ≡ refusing n → pl ≡ plan_heard t m a
-  unfolding plan_heard
-  unread e h = rw e h
-
-  pub read_by : {path tag p n u : ℕ} {c : Bool} {w : Request} {s : Lookup} → a ≡ Ok (asking path tag w) → p ≡ path_of t path → u ≡ unit_asked w → c ≡ goes_by_unit w → c ≡ false → n ≡ tag_asked tag w
-      → s ≡ lookup_of t p n u (cond false (others_on t u p) 0) → pl ≡ cond (ltb p 8) (plan_of s t.next p tag m w) (refusing Codes.unknown_path) → pl ≡ plan_heard t m a
-  unfolding plan_heard plan_for plan_at
-  read_by {tag = tag} {w = w} e p u g y n s h = h ∙ rw (e, s, n, u, others_alike t m _ tag t.next w (sym g ∙ y), p)
+-- the plan for what a path asks, looked up in the two ways
+module _ (t : Table) (m : List ℕ) (path tag : ℕ) (w : Request) {pl : Plan} {p u : ℕ} {c : Bool} {s : Lookup} (d : p ≡ path_of t path) (e : u ≡ unit_asked w) (g : c ≡ goes_by_unit w)
+    (h : pl ≡ cond (ltb p 8) (plan_of s t.next p tag m w) (refusing Codes.unknown_path)) where
+  pub read_by : {n : ℕ} (o : ℕ) → c ≡ false → n ≡ tag_asked tag w → s ≡ lookup_of t p n u (cond false o 0) → pl ≡ plan_for t m path tag w
+  unfolding plan_for plan_at
+  read_by o y n k = h ∙ rw (k, n, e, others_alike t m _ tag t.next w (sym g ∙ y), d)
 
   -- what an order asks that goes by its unit alone
-  pub read_by_unit : {path tag p u o : ℕ} {b c f : Bool} {w : Request} {s : Lookup} → a ≡ Ok (asking path tag w) → p ≡ path_of t path → u ≡ unit_asked w → b ≡ clears_set w → o ≡ cond b (others_on t u p) 0
-      → c ≡ goes_by_unit w → c ≡ true → f ≡ is_attached t u → s ≡ unit_alone f o → pl ≡ cond (ltb p 8) (plan_of s t.next p tag m w) (refusing Codes.unknown_path) → pl ≡ plan_heard t m a
-  unfolding plan_heard plan_for plan_at
-  read_by_unit {tag = tag} {w = w} e p u b o g y f s h = h ∙ rw (e, s, unit_alike t m _ tag t.next _ _ _ _ w (sym g ∙ y) f u b o, p)
+  pub read_by_unit : {o : ℕ} {b f : Bool} → c ≡ true → b ≡ clears_set w → o ≡ cond b (others_on t u p) 0 → f ≡ is_attached t u → s ≡ unit_alone f o → pl ≡ plan_for t m path tag w
+  unfolding plan_for plan_at
+  read_by_unit y b o f k = h ∙ rw (k, unit_alike t m _ tag t.next _ _ _ _ w (sym g ∙ y) f e b o, d)
 
 -- the step that a plan asks for does what the plan says
 steps_so : (t : Table) (d : RecordChange) → stepped t (step_of d) ≡ with_records t d
@@ -160,86 +153,71 @@ other_stops t (records.End s) k = absurd (k _ refl)
 other_stops t (records.Complete s) k = refl
 other_stops t (records.Restart place offset) k = refl
 
-carried_heard : (t : Table) (m : List ℕ) (a : Result Asked Refusal) → carried t (sender_of a) (plan_heard t m a) ≡ answered_to t m a
-unfolding plan_heard answered_to carried_out with_records
-carried_heard t m (Err n) = rw (gone_none t.live)
-carried_heard t m (Ok a) = refl
-
 -- ---- the reply
 
 -- the contract of a call with a reply buffer
 pub answers : {d o : Outcome} {buf left : List ℕ} → o ≡ d → left ≡ replied o.answer buf → Answers d buf o left
 answers e h = record { outcome = e; buffer = h ∙ rw e }
 
-pub carries : (t : Table) (m : List ℕ) (room : ℕ) {b : Bool} {a : Result Asked Refusal} {pl : Plan} {u : Table} {g from to stops : ℕ} → b ≡ sound_of t → a ≡ heard_of b room m → pl ≡ plan_heard t m a
-    → u ≡ carried_out t pl → g ≡ gone t.live u.live → from ≡ sender_of a → to ≡ reply_path pl.answer from → stops ≡ stops_for t pl.records
-    → record { table = u; answer = pl.answer; ended = g; to = to; stops = stops } ≡ message_of t m room
-unfolding message_of
-carries t m room s h p c g f d k = rw (g, c, d, k, f, p, h, s) (carried_heard t m (heard_of (sound_of t) room m))
+module _ (t : Table) (m : List ℕ) (room : ℕ) {b : Bool} (s : b ≡ sound_of t) {r : Result Asked Refusal} (h : r ≡ heard_of b room m) where
+  pub refuses : {n : Refusal} {o : Outcome} → r ≡ Err n → o ≡ refused t n → o ≡ message_of t m room
+  unfolding message_of answered_to
+  refuses e k = k ∙ rw (← s, ← h, e)
 
--- ---- start
+  pub carries : {a : Asked} {pl : Plan} {u : Table} {g to stops : ℕ} → r ≡ Ok a → pl ≡ plan_for t m a.path a.tag a.request
+      → u ≡ carried_out t pl → g ≡ gone t.live u.live → to ≡ reply_path pl.answer a.path → stops ≡ stops_for t pl.records
+      → record { table = u; answer = pl.answer; ended = g; to = to; stops = stops } ≡ message_of t m room
+  unfolding message_of answered_to
+  carries e p c g d k = rw (g, c, d, k, p, ← s, ← h, e)
 
-pub chosen : (t : Table) (lun : ℕ) {u : unit.Unit} {s : Selection} {p : Option Pick} → u ≡ unit_at t lun → s ≡ may_go u.aca lun → p ≡ pick_of t s → p ≡ choice_on t lun
-unfolding choice_on
-chosen t lun e h k = k ∙ rw (h, e)
-
-pub starts : (t : Table) (lun : ℕ) {b f r : Bool} {q : Selection} {h : Option ℕ} {p : Option Pick} {v : Verdict} {u : Table} → b ≡ sound_of t → q ≡ running_on lun → h ≡ holders_of t q → r ≡ is_some h → p ≡ choice_on t lun → f ≡ is_attached t lun
-    → v ≡ chosen_by b f r p → u ≡ stepped t (step.Alter v.place Run) → settled v u ≡ start_of t lun
-unfolding start_of start_verdict chosen_by stepped
-starts t lun s k h y c d e g = rw (g, e, s, y, h, k, holders_found t (running_on lun), c, d)
+-- a refusal writes nothing
+pub unwritten : (t : Table) (n : Refusal) (buf : List ℕ) → buf ≡ replied (refused t n).answer buf
+unfolding replied
+unwritten t n buf = refl
 
 -- ---- finish
 
--- the record that a finish is about holds the running task of the arrival number, or is none
-module _ (t : Table) (arrival : ℕ) where
-  stands : (p : Pick) → pick_of t (running_as arrival) ≡ Some p → p.task ≡ task_at t p.at
-  unfolding pick_of
-  stands p e = (scan_stands t.live (running_as arrival) t.tasks p e).task
+-- the record that a finish is about holds the running task of the arrival number
+stands : (t : Table) (arrival : ℕ) (p : Pick) → pick_of t (running_as arrival) ≡ Some p → p.task ≡ task_at t p.at
+unfolding pick_of
+stands t arrival p e = (scan_stands t.live (running_as arrival) t.tasks p e).task
 
-  module _ (x : StatusByte) (s : Sense) (transferred room : ℕ) where
-    abbrev found : Option Pick
-    found = pick_of t (running_as arrival)
+chosen_ran : (t : Table) (arrival room : ℕ) (x : StatusByte) (s : Sense) (p : Pick) → finish_choice t arrival x s room ≡ Ok p → pick_of t (running_as arrival) ≡ Some p
+unfolding finish_choice
+chosen_ran t arrival room x s p =
+    let Q : Result Pick Refusal → Type 0 = λ v. v ≡ Ok p → pick_of t (running_as arrival) ≡ Some p in
+    cond_ind Q (not (sound_of t)) (λ _ e. absurd (err-ok e))
+    (λ _. cond_ind Q (ltb room Codes.reply_room) (λ _ e. absurd (err-ok e))
+    (λ _. cond_ind Q (not (may_finish x s)) (λ _ e. absurd (err-ok e))
+    (λ _. option_ind (λ (o : Option Pick). ok_or o Codes.not_running ≡ Ok p → pick_of t (running_as arrival) ≡ Some p) (pick_of t (running_as arrival)) (λ _ e. absurd (err-ok e))
+    (λ q k e. k ∙ ap Some (same_Ok q p e)))))
 
-    abbrev judgement : Verdict
-    judgement = finish_verdict t arrival x s room
+module _ (t : Table) (arrival : ℕ) (x : StatusByte) (s : Sense) (transferred room : ℕ) {b : Bool} {q : Selection} {found : Option Pick} {v : Result Pick Refusal}
+    (h : b ≡ sound_of t) (y : q ≡ running_as arrival) (f : found ≡ pick_of t q) (e : v ≡ judged_by b room x s found) where
+  judged_so : v ≡ finish_choice t arrival x s room
+  unfolding judged_by finish_choice
+  judged_so = e ∙ rw (h, f, y)
 
-    abbrev Left : Task → Verdict → Type 0
-    Left a v = stepped (with_units t (finish_units t.units t.live v.place a (failed x))) (finish_step t.live v.place a transferred) ≡ finished t v.place (failed x) transferred
+  pub finish_refused : {n : Refusal} {o : Outcome} → v ≡ Err n → o ≡ refused t n → o ≡ finish_of t arrival x s transferred room
+  unfolding finish_of
+  finish_refused r k = k ∙ rw (← judged_so, r)
 
-    none_left : (a : Task) (r : Refusal) → Left a (rejected r)
-    none_left a r = finish_of_none t (failed x) transferred a
-
-    reported : (id : ℕ) → Left (task_or_none found) (reports found id x s)
-    reported id =
-        option_ind (λ (p : Option Pick). Left (task_or_none p) (reports p id x s)) found (λ _. none_left _ Codes.not_running)
-        (λ p e. rw (stands p e) (finish_is_step t (failed x) transferred p.at))
-
-    left : Left (task_or_none found) judgement
-    unfolding finish_verdict
-    left =
-        let L : Verdict → Type 0 = Left (task_or_none found) in
-        cond_ind L (not (sound_of t)) (λ _. none_left _ Codes.not_sound) (λ _.
-        cond_ind L (ltb room Codes.reply_room) (λ _. none_left _ Codes.small_buffer) (λ _.
-        cond_ind L (not (may_finish x s)) (λ _. none_left _ Codes.bad_status) (λ _. reported _)))
-
-    pub finishes : {b bad : Bool} {q : Selection} {p : Option Pick} {a : Task} {from : path.Path} {v : Verdict} {l : List unit.Unit} {k : Step} {u : Table} {n : ℕ} → b ≡ sound_of t → q ≡ running_as arrival → p ≡ pick_of t q
-        → a ≡ task_or_none p → from ≡ path_at t a.path → v ≡ judged_by b room x s p from.id → bad ≡ failed x → l ≡ finish_units t.units t.live v.place a bad
-        → k ≡ finish_step t.live v.place a transferred → u ≡ stepped (with_units t l) k → n ≡ gone t.live u.live
-        → record { table = u; answer = v.answer; ended = n; to = v.to; stops = 0 } ≡ finish_of t arrival x s transferred room
-    unfolding finish_of judged_by finish_verdict
-    finishes h y g f d e i c w z n =
-        let j : _ ≡ judgement = e ∙ rw (h, d, f, g, y) judged_so in
-        rw (n, z, w, c, i, j, f, g, y) (ap (closed judgement t) left)
-      where
-        judged_so : judged_by (sound_of t) room x s found (path_at t (task_or_none found).path).id ≡ judgement
-        judged_so = refl
+  pub finish_done : {p : Pick} {bad : Bool} {k : Sense} {from : path.Path} {l : List unit.Unit} {d : Step} {u : Table} {n : ℕ} → v ≡ Ok p → k ≡ sent_sense x s → bad ≡ failed x
+      → from ≡ path_at t p.task.path → l ≡ finish_units t.units t.live p.at p.task bad → d ≡ finish_step t.live p.at p.task transferred → u ≡ stepped (with_units t l) d → n ≡ gone t.live u.live
+      → record { table = u; answer = Ok (answer.Reply (reply.Status p.task.tag x k)); ended = n; to = from.id; stops = 0 } ≡ finish_of t arrival x s transferred room
+  unfolding finish_of
+  finish_done {p = p} r c i g l d u n =
+      let same : p.task ≡ task_at t p.at = stands t arrival p (chosen_ran t arrival room x s p (sym judged_so ∙ r)) in
+      let left : stepped (with_units t (finish_units t.units t.live p.at p.task (failed x))) (finish_step t.live p.at p.task transferred) ≡ finished t p.at (failed x) transferred =
+      rw same (finish_is_step t (failed x) transferred p.at) in
+      rw (n, u, d, l, i, c, g, left, ← judged_so, r)
 
 -- ---- total reset and setup
 
 module _ (t : Table) {b : Bool} (e : b ≡ sound_of t) where
-  pub reset_refused : {u : Table} {g : ℕ} → b ≡ false → u ≡ t → g ≡ gone t.live u.live → record { table = u; answer = Err Codes.not_sound; ended = g; to = 0; stops = 0 } ≡ total_reset_of t
+  pub reset_refused : {o : Outcome} → b ≡ false → o ≡ refused t Codes.not_sound → o ≡ total_reset_of t
   unfolding total_reset_of
-  reset_refused h d k = rw (← e, h) (rw (k, d, gone_none t.live))
+  reset_refused h k = k ∙ rw (← e, h)
 
   pub resets : {u : Table} {l : List path.Path} {us : List unit.Unit} {g stops : ℕ} → b ≡ true → stops ≡ running_among t every_task → l ≡ reset_attention_in t.paths t.count true → us ≡ aca_cleared_in t.units None
       → u ≡ stepped (with_units (with_paths t l) us) (step.End every_task) → g ≡ gone t.live u.live → length t.tasks ≡ 64

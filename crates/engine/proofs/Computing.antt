@@ -17,7 +17,7 @@ use Rattle.rules.specs.Facts.{facts_of, lookup_of}
 use Rattle.rules.specs.Rules.{resumes_unmarked, misses_resume, contradicts, kept_out_by_aca, aca_kind_without_aca, passes_attention, reset_to_report, cleared_to_report, room_rules, field_rules, unit_rules, block_rules, command_rules}
 use Rattle.rules.specs.Management.{order_code}
 use Rattle.plan.specs.Plans.{order_plan, confirm_plan}
-use Rattle.engine.specs.Calls.{heard_of, plan_at, plan_for, with_records, carried_out, answered_to, message_of, choice_on, start_verdict, start_of, finish_verdict, finish_of, setup_of, replied}
+use Rattle.engine.specs.Calls.{heard_of, plan_at, plan_for, with_records, carried_out, answered_to, message_of, choice_on, start_choice, start_of, finish_choice, finish_of, setup_of, replied}
 
 unfoldable bytes : Unit {0}
 unfolding fields_of read_of command_reserved confirm_reserved reserved_set cut_short no_block linked writable_of bytes_of left_of
@@ -32,7 +32,7 @@ unfolding first_that facts_of lookup_of resumes_unmarked misses_resume contradic
 answers = tt
 
 unfoldable calls : Unit {0}
-unfolding heard_of plan_at plan_for with_records carried_out answered_to message_of choice_on start_verdict start_of finish_verdict finish_of setup_of replied
+unfolding heard_of plan_at plan_for with_records carried_out answered_to message_of choice_on start_choice start_of finish_choice finish_of setup_of replied
 calls = tt
 
 -- to unfold this name is to unfold all that stand here

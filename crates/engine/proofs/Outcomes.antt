@@ -34,9 +34,9 @@ use Rattle.plan.specs.declared.Plan.{Plan}
 use Rattle.plan.specs.declared.Answer.{Answer}
 use Rattle.plan.specs.declared.Answer.TheVariants as answer
 use Rattle.wire.proofs.Results.{same_Ok}
-use Rattle.engine.specs.Calls.{out, ending, refused, heard_of, plan_at, plan_for, with_records, carried_out, carried, answered_to, message_of, rejected, settled, closed, choice_on, start_verdict, start_of, may_finish, sent_sense, running_task, failed, finish_verdict, finish_of, total_reset_of, replied, Answers, goes, reports}
+use Rattle.std.specs.Option.{ok_or}
+use Rattle.engine.specs.Calls.{out, ending, refused, heard_of, plan_at, plan_for, with_records, carried_out, carried, answered_to, message_of, choice_on, goes, start_choice, start_of, may_finish, sent_sense, failed, finishes, finish_choice, finish_of, total_reset_of, replied, Answers}
 use Rattle.engine.specs.declared.Outcome.{Outcome}
-use Rattle.engine.specs.declared.calls.Verdict.{Verdict}
 
 -- what is heard is one: path, tag and request
 pub one_asked : {r : Result Asked Refusal} (path tag path2 tag2 : ℕ) (w w2 : Request) → r ≡ Ok (asking path2 tag2 w2) → r ≡ Ok (asking path tag w) → (path2 ≡ path) × (tag2 ≡ tag) × (w2 ≡ w)
@@ -74,14 +74,13 @@ module _ (P : Outcome → Type 0) (t : Table) (stops : (n : Refusal) → P (refu
       → (is_attached t unit ≡ true → is_some (pick_of t (running_on unit)) ≡ false → (p : Pick) → choice_on t unit ≡ Some p
       → P (out (started t p.at) (Ok (answer.Started (offset_of p.task) p.task.arrival)) 0))
       → P (start_of t unit)
-  unfolding start_of start_verdict
+  unfolding start_of start_choice
   each_start unit goes_on =
-      let Q : Verdict → Type 0 = λ v. P (settled v (started t v.place)) in
-      let no : (n : Refusal) → Q (rejected n) = λ n. rw (altered_none t _) (stops n) in
-      cond_ind Q (not (sound_of t)) (λ _. no _)
-      (λ _. cond_ind Q (not (is_attached t unit)) (λ _. no _)
-      (λ a. cond_ind Q (is_some (pick_of t (running_on unit))) (λ _. no _)
-      (λ r. option_ind (λ (p : Option Pick). Q (goes p)) (choice_on t unit) (λ _. no _) (λ p e. goes_on (not-false _ a) r p e))))
+      let Q : Result Pick Refusal → Type 0 = λ v. P (goes t v) in
+      cond_ind Q (not (sound_of t)) (λ _. stops _)
+      (λ _. cond_ind Q (not (is_attached t unit)) (λ _. stops _)
+      (λ a. cond_ind Q (is_some (pick_of t (running_on unit))) (λ _. stops _)
+      (λ r. option_ind (λ (p : Option Pick). Q (ok_or p Codes.nothing_to_start)) (choice_on t unit) (λ _. stops _) (λ p e. goes_on (not-false _ a) r p e))))
 
   -- a finish: refused, or the running task of the arrival number is finished
   module _ (arrival : ℕ) (status : StatusByte) (s : Sense) (transferred n : ℕ) where
@@ -91,15 +90,14 @@ module _ (P : Outcome → Type 0) (t : Table) (stops : (n : Refusal) → P (refu
 
     -- where the reply buffer has room, and the device's status and sense key may be sent
     pub each_sent : (Codes.reply_room ≤ n → may_finish status s ≡ true → Ended) → P (finish_of t arrival status s transferred n)
-    unfolding finish_of finish_verdict
-    each_sent goes =
-        let Q : Verdict → Type 0 = λ v. P (closed v t (finished t v.place (failed status) transferred)) in
-        let no : (n : Refusal) → Q (rejected n) = λ n. rw (finished_none t (failed status) transferred, gone_none t.live) (stops n) in
-        cond_ind Q (not (sound_of t)) (λ _. no _)
-        (λ _. cond_ind Q (ltb n Codes.reply_room) (λ _. no _)
-        (λ l. cond_ind Q (not (may_finish status s)) (λ _. no _)
-        (λ m. option_ind (λ (p : Option Pick). Q (reports p (path_at t (task_or_none p).path).id status s)) (pick_of t (running_as arrival)) (λ _. no _)
-        (λ p e. goes (ltb-false n _ l) (not-false _ m) p e))))
+    unfolding finish_of finish_choice
+    each_sent ends =
+        let Q : Result Pick Refusal → Type 0 = λ v. P (finishes t status s transferred v) in
+        cond_ind Q (not (sound_of t)) (λ _. stops _)
+        (λ _. cond_ind Q (ltb n Codes.reply_room) (λ _. stops _)
+        (λ l. cond_ind Q (not (may_finish status s)) (λ _. stops _)
+        (λ m. option_ind (λ (p : Option Pick). Q (ok_or p Codes.not_running)) (pick_of t (running_as arrival)) (λ _. stops _)
+        (λ p e. ends (ltb-false n _ l) (not-false _ m) p e))))
 
     pub each_finish : Ended → P (finish_of t arrival status s transferred n)
     each_finish goes = each_sent (λ _ _. goes)

@@ -13,7 +13,7 @@ use Rattle.reply.specs.Calls.{left_of}
 use Rattle.reply.specs.declared.Reply.{Reply}
 use Rattle.reply.specs.declared.Reply.TheVariants as reply
 use Rattle.task.specs.Map.{gone}
-use Rattle.task.specs.Scan.{task_or_none}
+use Rattle.std.specs.Option.{ok_or}
 use Rattle.task.specs.Tasks.{offset_of}
 use Rattle.task.specs.Selections.{every_task, running_on, waiting_on, aca_waiting_on, running_as}
 use Rattle.task.specs.declared.Task.{Task}
@@ -36,7 +36,6 @@ use Rattle.plan.specs.declared.Plan.{Plan}
 use Rattle.plan.specs.declared.Answer.{Answer}
 use Rattle.plan.specs.declared.Answer.TheVariants as answer
 use Rattle.engine.specs.declared.Outcome.{Outcome}
-use Rattle.engine.specs.declared.calls.Verdict.{Verdict}
 
 -- ---- an outcome: the table, the answer, the map of the records whose commands this call ended, the id of the path that the reply goes to, 0 with no reply, and
 -- the map of the units whose device has to stop
@@ -124,22 +123,7 @@ answered_to t m (Ok a) = carried t a.path (plan_for t m a.path a.tag a.request)
 unfoldable pub message_of : Table → List ℕ → ℕ → Outcome
 message_of t m n = answered_to t m (heard_of (sound_of t) n m)
 
--- ---- a call of the device: what it comes to, then the one record changes
-
--- the answer, the record that it is about, and the id of the path that the reply goes to; 64 is no record, and no
--- change of it changes the table
-abbrev pub verdict : Result Answer Refusal → ℕ → ℕ → Verdict
-verdict a place to = record { answer = a; place = place; to = to }
-
-abbrev pub rejected : Refusal → Verdict
-rejected n = verdict (Err n) 64 0
-
--- a start ends nothing; what a finish ends has finished, and nothing has to stop
-abbrev pub settled : Verdict → Table → Outcome
-settled v t = out t v.answer v.to
-
-abbrev pub closed : Verdict → Table → Table → Outcome
-closed v t u = ending t u v.answer v.to 0
+-- ---- a call of the device: it is refused, or the one record of a task changes
 
 -- start, for a unit with nothing running: 13, 6, 7, 8. Under ACA only the ACA task may go
 abbrev pub may_go : option.Option ℕ → ℕ → Selection
@@ -148,20 +132,20 @@ may_go aca unit = cond (has_aca aca) (aca_waiting_on unit) (waiting_on unit)
 unfoldable pub choice_on : Table → ℕ → option.Option Pick
 choice_on t unit = pick_of t (may_go (unit_at t unit).aca unit)
 
--- the arrival number is answered, and the offset to start at: the one named by the last restart, 0 for a task never
--- restarted. With no task 8
-abbrev pub goes : option.Option Pick → Verdict
-goes None = rejected Codes.nothing_to_start
-goes (Some p) = verdict (Ok (answer.Started (offset_of p.task) p.task.arrival)) p.at 0
+unfoldable pub start_choice : Table → ℕ → Result Pick Refusal
+start_choice t unit =
+    cond (not (sound_of t)) (Err Codes.not_sound)
+    (cond (not (is_attached t unit)) (Err Codes.not_attached)
+    (cond (is_some (pick_of t (running_on unit))) (Err Codes.unit_busy) (ok_or (choice_on t unit) Codes.nothing_to_start)))
 
-unfoldable pub start_verdict : Table → ℕ → Verdict
-start_verdict t unit =
-    cond (not (sound_of t)) (rejected Codes.not_sound)
-    (cond (not (is_attached t unit)) (rejected Codes.not_attached)
-    (cond (is_some (pick_of t (running_on unit))) (rejected Codes.unit_busy) (goes (choice_on t unit))))
+-- the task runs. The arrival number is answered, and the offset to start at: the one named by the last restart, 0 for a
+-- task never restarted. A start ends nothing
+abbrev pub goes : Table → Result Pick Refusal → Outcome
+goes t (Err n) = refused t n
+goes t (Ok p) = out (started t p.at) (Ok (answer.Started (offset_of p.task) p.task.arrival)) 0
 
 unfoldable pub start_of : Table → ℕ → Outcome
-start_of t unit = settled (start_verdict t unit) (started t (start_verdict t unit).place)
+start_of t unit = goes t (start_choice t unit)
 
 -- finish: 13, 5, 10, 9. Status 00h, 02h, 04h or 18h, sense key up to 15
 abbrev pub may_finish : StatusByte → Sense → Bool
@@ -173,30 +157,26 @@ may_finish status s =
 abbrev pub sent_sense : StatusByte → Sense → Sense
 sent_sense status s = cond (eqb status.0 (Codes.check_condition).0) s Codes.no_sense
 
--- the running task of an arrival number, and the wiped one where there is none
-abbrev pub running_task : Table → ℕ → Task
-running_task t arrival = task_or_none (pick_of t (running_as arrival))
-
--- STATUS for the task that runs, to the path with the id; with no task 9
-abbrev pub reports : option.Option Pick → ℕ → StatusByte → Sense → Verdict
-reports None id status s = rejected Codes.not_running
-reports (Some p) id status s = verdict (Ok (answer.Reply (reply.Status p.task.tag status (sent_sense status s)))) p.at id
-
 abbrev pub failed : StatusByte → Bool
 failed status = eqb status.0 (Codes.check_condition).0
 
--- n is the length of the reply buffer
-unfoldable pub finish_verdict : Table → ℕ → StatusByte → Sense → ℕ → Verdict
-finish_verdict t arrival status s n =
-    cond (not (sound_of t)) (rejected Codes.not_sound)
-    (cond (ltb n Codes.reply_room) (rejected Codes.small_buffer)
-    (cond (not (may_finish status s)) (rejected Codes.bad_status)
-    (reports (pick_of t (running_as arrival)) (path_at t (running_task t arrival).path).id status s)))
+-- the running task of the arrival number; n is the length of the reply buffer
+unfoldable pub finish_choice : Table → ℕ → StatusByte → Sense → ℕ → Result Pick Refusal
+finish_choice t arrival status s n =
+    cond (not (sound_of t)) (Err Codes.not_sound)
+    (cond (ltb n Codes.reply_room) (Err Codes.small_buffer)
+    (cond (not (may_finish status s)) (Err Codes.bad_status) (ok_or (pick_of t (running_as arrival)) Codes.not_running)))
 
--- the task ends, or with CONFIRM waits to be confirmed, with the bytes transferred
+-- the task ends, or with CONFIRM waits to be confirmed, with the bytes transferred: STATUS to its path. What a finish
+-- ends has finished, and nothing has to stop
+abbrev pub finishes : Table → StatusByte → Sense → ℕ → Result Pick Refusal → Outcome
+finishes t status s transferred (Err n) = refused t n
+finishes t status s transferred (Ok p) =
+    ending t (finished t p.at (failed status) transferred) (Ok (answer.Reply (reply.Status p.task.tag status (sent_sense status s))))
+    (path_at t p.task.path).id 0
+
 unfoldable pub finish_of : Table → ℕ → StatusByte → Sense → ℕ → ℕ → Outcome
-finish_of t arrival status s transferred n =
-    closed (finish_verdict t arrival status s n) t (finished t (finish_verdict t arrival status s n).place (failed status) transferred)
+finish_of t arrival status s transferred n = finishes t status s transferred (finish_choice t arrival status s n)
 
 -- total reset: 13 only. Every unit on which a task runs has to stop
 unfoldable pub total_reset_of : Table → Outcome

@@ -1,7 +1,6 @@
 // The five calls, and the part of a message that is its command block.
 ghost use Rattle.std.specs.Prelude.{◌≡◌, cond, ltb};
-ghost use Rattle.task.specs.Scan.{task_or_none};
-ghost use Rattle.engine.specs.Calls.{reply_path, heard_of, sender_of, may_go, rejected, may_finish, sent_sense, replied};
+ghost use Rattle.engine.specs.Calls.{reply_path, refused, heard_of, may_go, may_finish, sent_sense, replied};
 ghost use Rattle.engine.specs.Steps.{step_of, chosen_by, judged_by};
 ghost use Rattle.engine.specs.Calls.{SetupContract, MessageContract, StartContract, FinishContract, TotalResetContract, CommandBlockContract};
 ghost use Rattle.wire.specs.Codes;
@@ -17,7 +16,6 @@ use table::steps::{Alteration, Step, finish_step, finish_units};
 use table::{PATHS, Table};
 use task::scan::Pick;
 use task::select::Selection;
-use task::{RECORDS, Task};
 use wire::codes::{REPLY_ROOM, Refusal, Sense, StatusByte};
 
 // The path that a reply goes to, and 0 where the answer is none.
@@ -42,16 +40,6 @@ fn heard(sound: bool, room: usize, m: &[u8]) -> Result<Asked, Refusal>
         return Err(Refusal::SmallBuffer);
     }
     Ok(plan::ask(wire::message::read(m)?))
-}
-
-// The id of the path that a message is from; 0 where nothing is heard.
-fn sender_of(a: Result<Asked, Refusal>) -> u32
-    ensures { result ≡ sender_of a }
-{
-    match a {
-        Err(_) => 0,
-        Ok(a) => a.path,
-    }
 }
 
 // The reply that an answer is, into the buffer.
@@ -105,31 +93,42 @@ fn step_of(r: RecordChange) -> Step
     }
 }
 
+// A call that is refused: the table as it was.
+fn refused(t: Table, n: Refusal) -> Outcome
+    ensures { result ≡ refused t n }
+{
+    Outcome {
+        table: t,
+        answer: Err(n),
+        ended: 0,
+        to: 0,
+        stops: 0,
+    }
+}
+
 // A message received: the next table, the answer, what was ended, and the reply in the buffer. The plan is found first,
 // then carried out on the one table: paths and units in place, then the records.
 pub fn message(mut t: Table, m: &[u8], reply: &mut [u8]) -> Outcome
     ensures { MessageContract t m.now reply.old result reply.new }
 {
-    let asked = heard(is_sound(t), reply.len(), m);
-    let plan = match asked {
-        Err(n) => plan::refuse(n),
-        Ok(a) => {
-            let request = a.request;
-            let p = t.path_of(a.path);
-            let lun = plan::unit_asked(request);
-            let others = if plan::clears_set(request) {
-                t.others_on(lun, p)
-            } else {
-                0
-            };
-            let lookup = if plan::goes_by_unit(request) {
-                unit_alone(t.is_attached(lun), others)
-            } else {
-                look_up(t, p, plan::tag_asked(a.tag, request), lun, false)
-            };
-            plan_for(lookup, t.next, p, a.tag, m, request)
-        }
+    let a = match heard(is_sound(t), reply.len(), m) {
+        Ok(a) => a,
+        Err(n) => return refused(t, n),
     };
+    let request = a.request;
+    let p = t.path_of(a.path);
+    let lun = plan::unit_asked(request);
+    let others = if plan::clears_set(request) {
+        t.others_on(lun, p)
+    } else {
+        0
+    };
+    let lookup = if plan::goes_by_unit(request) {
+        unit_alone(t.is_attached(lun), others)
+    } else {
+        look_up(t, p, plan::tag_asked(a.tag, request), lun, false)
+    };
+    let plan = plan_for(lookup, t.next, p, a.tag, m, request);
     t.paths = plan::change_paths(t.paths, t.count, plan.change);
     t.units = plan::change_units(t.units, plan.change);
     let before = t.live;
@@ -149,7 +148,7 @@ pub fn message(mut t: Table, m: &[u8], reply: &mut [u8]) -> Outcome
         table: t,
         answer: plan.answer,
         ended: task::map::gone(before, t.live),
-        to: reply_path(plan.answer, sender_of(asked)),
+        to: reply_path(plan.answer, a.path),
         stops,
     }
 }
@@ -165,71 +164,51 @@ fn may_go(aca: Option<u8>, unit: u8) -> Selection
     }
 }
 
-// What a call of the device comes to: the answer, the record that it is about, or 64, and the id of the path that the
-// reply goes to.
-#[derive(Clone, Copy)]
-pub struct Verdict {
-    pub answer: Result<Answer, Refusal>,
-    pub place: usize,
-    pub to: u32,
-}
-
-fn reject(n: Refusal) -> Verdict
-    ensures { result ≡ rejected n }
-{
-    Verdict {
-        answer: Err(n),
-        place: RECORDS,
-        to: 0,
-    }
-}
-
-// What a start comes to, by what was asked of the table: whether it passed the check, the unit is attached and busy,
-// and the task that may go next there.
+// The task that a start is about, by what was asked of the table: whether it passed the check, the unit is attached and
+// busy, and the task that may go next there.
 #[tactic(auto, unfolding(crate::specs::Steps::chosen_by))]
-fn choose(checked: bool, attached: bool, busy: bool, p: Option<Pick>) -> Verdict
-    ensures { result ≡ chosen_by checked attached busy p }
+fn choose(
+    checked: bool,
+    attached: bool,
+    busy: bool,
+    next: Option<Pick>,
+) -> Result<Pick, Refusal>
+    ensures { result ≡ chosen_by checked attached busy next }
 {
     if !checked {
-        return reject(Refusal::NotSound);
+        return Err(Refusal::NotSound);
     }
     if !attached {
-        return reject(Refusal::NotAttached);
+        return Err(Refusal::NotAttached);
     }
     if busy {
-        return reject(Refusal::UnitBusy);
+        return Err(Refusal::UnitBusy);
     }
-    let Some(p) = p else {
-        return reject(Refusal::NothingToStart);
-    };
-    Verdict {
-        answer: Ok(Answer::Started {
-            offset: p.task.position,
-            arrival: p.task.arrival,
-        }),
-        place: p.at,
-        to: 0,
-    }
+    next.ok_or(Refusal::NothingToStart)
 }
 
 // The unit is free: the task that goes next runs. The answer has its arrival number and the offset to start at.
-pub fn start(mut t: Table, unit: u8) -> Outcome
+#[tactic(auto, using(table::proofs::Stepping::holders_found), unfolding(crate::specs::Calls::start_of, crate::specs::Calls::start_choice, crate::specs::Calls::choice_on, crate::specs::Steps::chosen_by, table::specs::Steps::stepped))]
+pub fn start(t: Table, unit: u8) -> Outcome
     ensures { StartContract t unit result }
 {
-    let sound = is_sound(t);
     let running = t.holders(Selection::running_on(unit));
-    let p = t.pick(may_go(t.unit_at(unit).aca, unit));
-    let v = choose(sound, t.is_attached(unit), running.is_some(), p);
-    t = t.step(Step::Alter {
-        place: v.place,
-        by: Alteration::Run,
-    });
-    Outcome {
-        table: t,
-        answer: v.answer,
-        ended: 0,
-        to: v.to,
-        stops: 0,
+    let next = t.pick(may_go(t.unit_at(unit).aca, unit));
+    match choose(is_sound(t), t.is_attached(unit), running.is_some(), next) {
+        Err(n) => refused(t, n),
+        Ok(p) => Outcome {
+            table: t.step(Step::Alter {
+                place: p.at,
+                by: Alteration::Run,
+            }),
+            answer: Ok(Answer::Started {
+                offset: p.task.position,
+                arrival: p.task.arrival,
+            }),
+            ended: 0,
+            to: 0,
+            stops: 0,
+        },
     }
 }
 
@@ -255,47 +234,28 @@ fn sent_sense(status: StatusByte, sense: Sense) -> Sense
     }
 }
 
-// What a finish comes to, by what was asked of the table: whether it passed the check, the running task of the arrival
-// number, and the id of its path; for a reply buffer of n bytes.
+// The task that a finish is about, by what was asked of the table: whether it passed the check, and the running task of
+// the arrival number; for a reply buffer of n bytes.
 #[tactic(auto, unfolding(crate::specs::Steps::judged_by))]
 fn judge(
     checked: bool,
     n: usize,
     status: StatusByte,
     sense: Sense,
-    p: Option<Pick>,
-    id: u32,
-) -> Verdict
-    ensures { result ≡ judged_by checked n status sense p id }
+    running: Option<Pick>,
+) -> Result<Pick, Refusal>
+    ensures { result ≡ judged_by checked n status sense running }
 {
     if !checked {
-        return reject(Refusal::NotSound);
+        return Err(Refusal::NotSound);
     }
     if n < REPLY_ROOM {
-        return reject(Refusal::SmallBuffer);
+        return Err(Refusal::SmallBuffer);
     }
     if !may_finish(status, sense) {
-        return reject(Refusal::BadStatus);
+        return Err(Refusal::BadStatus);
     }
-    let Some(p) = p else {
-        return reject(Refusal::NotRunning);
-    };
-    Verdict {
-        answer: Ok(Answer::Reply(Reply::Status {
-            tag: p.task.tag,
-            status,
-            sense: sent_sense(status, sense),
-        })),
-        place: p.at,
-        to: id,
-    }
-}
-
-// The task that was picked, and a wiped one where there is none.
-fn task_or_none(p: Option<Pick>) -> Task
-    ensures { result ≡ task_or_none p }
-{
-    p.map_or(task::no_task(), |p| p.task)
+    running.ok_or(Refusal::NotRunning)
 }
 
 // The device has finished the running task of an arrival number, after so many bytes: it ends, or with CONFIRM waits
@@ -312,27 +272,33 @@ pub fn finish(
 ) -> Outcome
     ensures { FinishContract t arrival (status_byte status) (sense key code qualifier) transferred reply.old result reply.new }
 {
-    let s = Sense {
+    let status = StatusByte(status);
+    let sense = Sense {
         key,
         code,
         qualifier,
     };
-    let sound = is_sound(t);
-    let p = t.pick(Selection::running_as(arrival));
-    let a = task_or_none(p);
-    let sender = t.path_at(a.path as usize);
-    let status = StatusByte(status);
-    let v = judge(sound, reply.len(), status, s, p, sender.id);
-    let failed = status == StatusByte::CHECK_CONDITION;
-    t.units = finish_units(t.units, t.live, v.place, a, failed);
+    let running = t.pick(Selection::running_as(arrival));
+    let p = match judge(is_sound(t), reply.len(), status, sense, running) {
+        Ok(p) => p,
+        Err(n) => return refused(t, n),
+    };
     let before = t.live;
-    t = t.step(finish_step(before, v.place, a, transferred));
-    reply_to(v.answer, reply);
+    let to = t.path_at(p.task.path as usize).id;
+    let answer = Ok(Answer::Reply(Reply::Status {
+        tag: p.task.tag,
+        status,
+        sense: sent_sense(status, sense),
+    }));
+    let failed = status == StatusByte::CHECK_CONDITION;
+    t.units = finish_units(t.units, before, p.at, p.task, failed);
+    t = t.step(finish_step(before, p.at, p.task, transferred));
+    reply_to(answer, reply);
     Outcome {
         table: t,
-        answer: v.answer,
+        answer,
         ended: task::map::gone(before, t.live),
-        to: v.to,
+        to,
         stops: 0,
     }
 }
@@ -341,19 +307,17 @@ pub fn finish(
 pub fn total_reset(mut t: Table) -> Outcome
     ensures { TotalResetContract t result }
 {
-    let mut answer = Err(Refusal::NotSound);
-    let before = t.live;
-    let mut stops: u8 = 0;
-    if is_sound(t) {
-        stops = t.running_among(Selection::ALL);
-        t.paths = table::paths::give_reset_attention(t.paths, t.count, true);
-        t.units = table::units::clear_aca(t.units, None);
-        t = t.step(Step::End(Selection::ALL));
-        answer = Ok(Answer::Reset);
+    if !is_sound(t) {
+        return refused(t, Refusal::NotSound);
     }
+    let before = t.live;
+    let stops = t.running_among(Selection::ALL);
+    t.paths = table::paths::give_reset_attention(t.paths, t.count, true);
+    t.units = table::units::clear_aca(t.units, None);
+    t = t.step(Step::End(Selection::ALL));
     Outcome {
         table: t,
-        answer,
+        answer: Ok(Answer::Reset),
         ended: task::map::gone(before, t.live),
         to: 0,
         stops,
