@@ -236,10 +236,10 @@ fn reset(rt: &impl Print, t: Table, c: &[u8]) -> io::Result<Table> {
 }
 
 // A task's arrival number and the place of its record.
-fn say_pick(rt: &impl Print, p: Pick) -> io::Result<()> {
-    if !p.found {
+fn say_pick(rt: &impl Print, p: Option<Pick>) -> io::Result<()> {
+    let Some(p) = p else {
         return text(rt, b"nobody");
-    }
+    };
     let a = p.task;
     counted(rt, b"next ", a.arrival)?;
     text(rt, b" at ")?;
