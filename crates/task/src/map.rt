@@ -4,7 +4,7 @@ ghost use Rattle.task.specs.Map.{is_live, lowest_free, live_count, with_bit, wit
 
 use crate::RECORDS;
 
-// The lowest place whose bit is 0, or 64.
+// The lowest place whose bit is 0, or 64. No Option: it is the count of trailing zeros that FreeIsTrailing promises.
 #[tactic(auto, using(crate::proofs::Bits::trailing_first), unfolding(crate::specs::Map::lowest_free))]
 pub fn lowest_free(live: u64) -> usize
     ensures { result ≡ lowest_free live }

@@ -5,7 +5,7 @@ ghost use Rattle.task.specs.Selections.{asked, whose_asked, picks, picks_live};
 
 use crate::{Kind, Phase, Task};
 
-// A tag means nothing without its path, so it can't be asked for alone.
+// Three ways, which no Option has. A tag means nothing without its path, so it can't be asked for alone.
 #[derive(Clone, Copy)]
 pub enum Whose {
     Anyone,
