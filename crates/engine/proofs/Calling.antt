@@ -22,7 +22,6 @@ use Rattle.wire.specs.declared.message.Message.{Message}
 use Rattle.reply.specs.Calls.{left_of}
 use Rattle.reply.specs.declared.Reply.{Reply}
 use Rattle.task.specs.Map.{gone}
-use Rattle.task.specs.Scan.{task_or_none}
 use Rattle.task.specs.Selections.{every_task, running_on, waiting_on, aca_waiting_on, running_as}
 use Rattle.wire.specs.declared.codes.Kind.{Kind}
 use Rattle.task.specs.declared.Sequel.{Sequel}

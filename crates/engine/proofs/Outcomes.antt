@@ -13,7 +13,6 @@ use Rattle.wire.specs.declared.codes.StatusByte.{StatusByte}
 use Rattle.wire.specs.declared.codes.Sense.{Sense}
 use Rattle.reply.specs.declared.Reply.TheVariants as reply
 use Rattle.std.specs.Prelude.{Option, Some, is_some}
-use Rattle.task.specs.Scan.{task_or_none}
 use Rattle.task.specs.Tasks.{offset_of, transferred_of}
 use Rattle.task.specs.Selections.{every_task, running_on, running_as, numbered_as}
 use Rattle.task.specs.declared.scan.Pick.{Pick}

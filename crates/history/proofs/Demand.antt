@@ -20,7 +20,7 @@ use Rattle.table.specs.declared.Table.{Table}
 use Rattle.sound.proofs.Keeps.{listed_at}
 use Rattle.table.proofs.Views.{at_empty, not_both}
 use Rattle.table.proofs.Weights.{setup_weighs}
-use Rattle.engine.specs.Calls.{heard_of, answered_to, message_of, start_verdict, start_of, finish_verdict, finish_of, total_reset_of, setup_of}
+use Rattle.engine.specs.Calls.{heard_of, answered_to, message_of, start_choice, start_of, finish_choice, finish_of, total_reset_of, setup_of}
 use Rattle.plan.specs.declared.Answer.TheVariants as answer
 use Rattle.engine.specs.declared.Outcome.{Outcome}
 use Rattle.engine.proofs.Keeps.{message_keeps, start_keeps, finish_keeps, reset_keeps, setup_is_good}
@@ -121,7 +121,7 @@ drive_keeps ids l t n TotalReset o left T c =
 
 -- a call on the all-zero table is refused by 13
 pub unsound : (ev : Event) → ((engine ev zero_table).answer ≡ Err Codes.not_sound) × ((engine ev zero_table).table ≡ zero_table)
-unfolding engine message_of heard_of answered_to start_of start_verdict finish_of finish_verdict total_reset_of sound_of count_ok zero_table altered_at finished
+unfolding engine message_of heard_of answered_to start_of start_choice finish_of finish_choice total_reset_of sound_of count_ok zero_table altered_at finished
 unsound (Message m buf) = (refl, refl)
 unsound (Start unit) = (refl, refl)
 unsound (Finish arrival status sense transferred buf) = (refl, refl)

@@ -13,11 +13,6 @@ nobody = None
 abbrev pub taken_at : ℕ → Task → Option Pick
 taken_at i a = Some (record { task = a; at = i })
 
--- the task that was picked; where there is none, the wiped one
-abbrev pub task_or_none : Option Pick → Task
-task_or_none None = no_task
-task_or_none (Some p) = p.task
-
 -- a goes before b
 abbrev pub beats : Task → Task → Bool
 beats a b =
