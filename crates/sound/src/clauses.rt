@@ -3,52 +3,25 @@ ghost use Rattle.std.specs.Prelude.{◌≡◌};
 ghost use Rattle.sound.specs.Sound;
 ghost use Rattle.sound.specs.Sound.{is_no_path, is_no_task, may_stand, live_ok, record_ok, unit_ok, cannot_share_unit, clash_of};
 
-use table::{Path, Unit};
+use table::{Attention, Path, Unit};
 use task::Task;
 
 // A path all zero.
 pub(crate) fn is_no_path(a: Path) -> bool
     ensures { result ≡ is_no_path a }
 {
-    if a.id != 0 {
-        return false;
+    a == Path {
+        id: 0,
+        full: false,
+        attention: Attention::Nothing,
     }
-    if a.full {
-        return false;
-    }
-    let pending = a.attention;
-    table::paths::is_nothing(pending)
 }
 
 // A record all zero.
 pub fn is_no_task(a: Task) -> bool
     ensures { result ≡ is_no_task a }
 {
-    if a.arrival != 0 {
-        return false;
-    }
-    if a.position != 0 {
-        return false;
-    }
-    if a.tag != 0 {
-        return false;
-    }
-    if a.path != 0 {
-        return false;
-    }
-    if a.unit != 0 {
-        return false;
-    }
-    let kind = a.kind;
-    if !task::is_aca(kind) {
-        return false;
-    }
-    let phase = a.phase;
-    if !task::is_waiting(phase) {
-        return false;
-    }
-    let sequel = a.sequel;
-    task::is_end(sequel)
+    a == task::no_task()
 }
 
 // An ACA task only on a unit with ACA, only from its owner.

@@ -11,7 +11,7 @@ pub mod units;
 use task::{RECORDS, Task};
 
 // A path's pending unit attention. The first variant is the zero of a wiped record.
-#[derive(Clone, Copy)]
+#[derive(Clone, Copy, PartialEq, Eq)]
 pub enum Attention {
     Nothing,
     Reset,
@@ -19,7 +19,7 @@ pub enum Attention {
 }
 
 // A return path: its id, its buffer-full mark, its pending attention.
-#[derive(Clone, Copy)]
+#[derive(Clone, Copy, PartialEq, Eq)]
 pub struct Path {
     pub id: u32,
     pub full: bool,

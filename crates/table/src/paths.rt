@@ -30,32 +30,20 @@ pub fn bit_of(map: u8, i: usize) -> bool
 pub fn is_nothing(a: Attention) -> bool
     ensures { result ≡ is_nothing a }
 {
-    match a {
-        Attention::Nothing => true,
-        Attention::Reset => false,
-        Attention::Cleared => false,
-    }
+    a == Attention::Nothing
 }
 
 // Which attention is pending.
 pub fn is_reset(a: Attention) -> bool
     ensures { result ≡ is_reset a }
 {
-    match a {
-        Attention::Nothing => false,
-        Attention::Reset => true,
-        Attention::Cleared => false,
-    }
+    a == Attention::Reset
 }
 
 pub fn is_cleared(a: Attention) -> bool
     ensures { result ≡ is_cleared a }
 {
-    match a {
-        Attention::Nothing => false,
-        Attention::Reset => false,
-        Attention::Cleared => true,
-    }
+    a == Attention::Cleared
 }
 
 // The path with reset attention, and with `unmark` its mark gone.

@@ -13,7 +13,7 @@ pub mod select;
 pub const RECORDS: usize = 64;
 
 // How a task is queued. The first is the zero of a wiped record, here, in Phase and in Sequel.
-#[derive(Clone, Copy)]
+#[derive(Clone, Copy, PartialEq, Eq)]
 pub enum Kind {
     Aca,
     Head,
@@ -22,7 +22,7 @@ pub enum Kind {
 }
 
 // Unconfirmed: the device has finished, and the task waits to be confirmed.
-#[derive(Clone, Copy)]
+#[derive(Clone, Copy, PartialEq, Eq)]
 pub enum Phase {
     Waiting,
     Running,
@@ -31,7 +31,7 @@ pub enum Phase {
 
 // What follows a finish: the task ends, or with CONFIRM it waits to be confirmed. One enum, since CONFIRM and LINK
 // (M-112) never go together.
-#[derive(Clone, Copy)]
+#[derive(Clone, Copy, PartialEq, Eq)]
 pub enum Sequel {
     End,
     Confirm,
@@ -41,7 +41,7 @@ pub enum Sequel {
 // list. The position is how many bytes into the command's data: while the task waits or runs, the offset that it
 // starts at (that of its last restart, or 0); while it waits to be confirmed, the bytes that the finish said were
 // transferred.
-#[derive(Clone, Copy)]
+#[derive(Clone, Copy, PartialEq, Eq)]
 pub struct Task {
     pub arrival: u64,
     pub position: u64,
