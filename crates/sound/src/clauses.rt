@@ -28,11 +28,7 @@ pub fn is_no_task(a: Task) -> bool
 fn may_stand(aca: Option<u8>, a: Task) -> bool
     ensures { result ≡ may_stand aca a }
 {
-    let kind = a.kind;
-    if task::is_aca(kind) {
-        return table::units::owned_by(aca, a.path);
-    }
-    true
+    !task::is_aca(a.kind) || table::units::owned_by(aca, a.path)
 }
 
 // A live record names a listed path and an attached unit, its arrival number lies below the next, and it may stand
@@ -59,9 +55,10 @@ pub(crate) fn record_ok(
     ensures { result ≡ record_ok live next count attached aca i a }
 {
     if task::map::is_live(live, i) {
-        return live_ok(next, count, attached, aca, a);
+        live_ok(next, count, attached, aca, a)
+    } else {
+        is_no_task(a)
     }
-    is_no_task(a)
 }
 
 // A unit's ACA only if it is attached, with a listed owner.
@@ -79,48 +76,22 @@ pub(crate) fn unit_ok(count: u8, attached: u8, u: usize, a: Unit) -> bool
 fn alike(a: Task, b: Task) -> bool
     ensures { result ≡ Sound.alike a b }
 {
-    if a.arrival == b.arrival {
-        return true;
-    }
-    if a.path == b.path {
-        if a.tag == b.tag {
-            return true;
-        }
-    }
-    if !cannot_share_unit(a, b) {
-        return false;
-    }
-    a.unit == b.unit
+    a.arrival == b.arrival
+        || (a.path == b.path && a.tag == b.tag)
+        || (cannot_share_unit(a, b) && a.unit == b.unit)
 }
 
 // Both run, or both are ACA tasks.
 fn cannot_share_unit(a: Task, b: Task) -> bool
     ensures { result ≡ cannot_share_unit a b }
 {
-    let p = a.phase;
-    let q = b.phase;
-    if task::is_running(p) {
-        if task::is_running(q) {
-            return true;
-        }
-    }
-    let k = a.kind;
-    let l = b.kind;
-    if task::is_aca(k) {
-        return task::is_aca(l);
-    }
-    false
+    (task::is_running(a.phase) && task::is_running(b.phase))
+        || (task::is_aca(a.kind) && task::is_aca(b.kind))
 }
 
 // Records i and j hold the tasks a and b that can't both be live, and are.
 pub(crate) fn clash(live: u64, i: usize, a: Task, j: usize, b: Task) -> bool
     ensures { result ≡ clash_of live i a j b }
 {
-    if !alike(a, b) {
-        return false;
-    }
-    if task::map::is_live(live, i) {
-        return task::map::is_live(live, j);
-    }
-    false
+    alike(a, b) && task::map::is_live(live, i) && task::map::is_live(live, j)
 }

@@ -15,13 +15,11 @@ pub mod clauses;
 mod seen;
 
 // 1 to 8 paths.
+#[tactic(auto, unfolding(crate::specs::Sound::count_ok))]
 fn count_ok(t: Table) -> bool
     ensures { result ≡ count_ok t }
 {
-    if t.count == 0 {
-        return false;
-    }
-    t.count as usize <= PATHS
+    t.count != 0 && t.count as usize <= PATHS
 }
 
 // Every listed path is the first with its id.
@@ -103,23 +101,14 @@ fn clashes(t: Table) -> bool
 }
 
 // Whether the table is sound.
+#[tactic(auto, unfolding(crate::specs::Sound::sound_of))]
 pub fn is_sound(t: Table) -> bool
     ensures { result ≡ sound_of t }
 {
-    if !count_ok(t) {
-        return false;
-    }
-    if !paths_distinct(t) {
-        return false;
-    }
-    if !unused_zero(t) {
-        return false;
-    }
-    if !records_ok(t) {
-        return false;
-    }
-    if !units_ok(t) {
-        return false;
-    }
-    !clashes(t)
+    count_ok(t)
+        && paths_distinct(t)
+        && unused_zero(t)
+        && records_ok(t)
+        && units_ok(t)
+        && !clashes(t)
 }

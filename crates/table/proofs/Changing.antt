@@ -91,11 +91,11 @@ module _ (l : List path.Path) (q : ℕ → Bool) (g : path.Path → path.Path) w
 
 -- ---- a unit's ACA
 
-owner_stays : (path : ℕ) (o : Option ℕ) → has_aca o ≡ true → claimed_unit path (record { aca = o }) ≡ record { aca = o }
+pub owner_stays : (path : ℕ) (o : Option ℕ) → has_aca o ≡ true → claimed_unit path (record { aca = o }) ≡ record { aca = o }
 owner_stays path None h = absurd (never h refl)
 owner_stays path (Some p) h = refl
 
-owner_comes : (path : ℕ) (o : Option ℕ) → has_aca o ≡ false → claimed_unit path (record { aca = o }) ≡ record { aca = Some path }
+pub owner_comes : (path : ℕ) (o : Option ℕ) → has_aca o ≡ false → claimed_unit path (record { aca = o }) ≡ record { aca = Some path }
 owner_comes path None h = refl
 owner_comes path (Some p) h = absurd (never refl h)
 

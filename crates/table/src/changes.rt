@@ -14,6 +14,7 @@ use task::{Kind, RECORDS, Sequel, Task};
 
 impl Table {
     // Of the live tasks that the selection picks, the one that goes next. The records are lent to the scan.
+    #[tactic(auto, unfolding(crate::specs::Tables::pick_of))]
     pub fn pick(self, s: Selection) -> Pick
         ensures { result ≡ pick_of self s }
     {
@@ -31,16 +32,15 @@ impl Table {
     }
 
     // Whether a record is free and an arrival number is left.
+    #[tactic(auto, unfolding(crate::specs::Tables::has_room))]
     pub fn has_room(self) -> bool
         ensures { result ≡ has_room self }
     {
-        if task::map::lowest_free(self.live) >= RECORDS {
-            return false;
-        }
-        self.next <= LAST_ARRIVAL
+        task::map::lowest_free(self.live) < RECORDS && self.next <= LAST_ARRIVAL
     }
 
     // A new waiting task in the lowest free record, under the next arrival number; with no room nothing changes.
+    #[tactic(auto, unfolding(crate::specs::Steps::stepped))]
     pub fn accept(self, path: u8, tag: u16, unit: u8, kind: Kind, sequel: Sequel) -> Table
         ensures { result ≡ accepted self path tag unit kind sequel }
     {
@@ -54,6 +54,7 @@ impl Table {
     }
 
     // Every live task that the selection picks ends: its record is wiped and its place free.
+    #[tactic(auto, unfolding(crate::specs::Steps::stepped))]
     pub fn end(self, s: Selection) -> Table
         ensures { result ≡ ended_by self s }
     {
@@ -61,6 +62,7 @@ impl Table {
     }
 
     // The live task in the record runs.
+    #[tactic(auto, unfolding(crate::specs::Steps::stepped))]
     pub fn start(self, i: usize) -> Table
         ensures { result ≡ started self i }
     {
@@ -71,6 +73,7 @@ impl Table {
     }
 
     // The live task in the record waits again, to start at an offset.
+    #[tactic(auto, unfolding(crate::specs::Steps::stepped))]
     pub fn restart(self, i: usize, offset: u32) -> Table
         ensures { result ≡ restarted self i offset }
     {
@@ -94,6 +97,7 @@ impl Table {
     }
 
     // Total reset: no task, no mark, no ACA, reset attention on every listed path; arrival numbers go on.
+    #[tactic(auto, unfolding(crate::specs::Tables::reset_of))]
     pub fn reset(mut self) -> Table
         ensures { result ≡ reset_of self }
     {
@@ -157,24 +161,14 @@ impl Table {
 fn runs_picked(live: u64, s: Selection, i: usize, a: Task) -> bool
     ensures { result ≡ (is_running a.phase && picks_live live s i a) }
 {
-    let phase = a.phase;
-    if !task::is_running(phase) {
-        return false;
-    }
-    task::select::picked_live(live, s, i, a)
+    task::is_running(a.phase) && task::select::picked_live(live, s, i, a)
 }
 
 // Whether the path at p loses a task: it is listed, not the sender's, and has one.
 fn is_other_on(count: u8, sender: u8, p: u8, has: bool) -> bool
     ensures { result ≡ (ltb p count && (not (eqb p sender) && has)) }
 {
-    if p >= count {
-        return false;
-    }
-    if p == sender {
-        return false;
-    }
-    has
+    p < count && p != sender && has
 }
 
 // The map of a byte with bit p, which it did not have.

@@ -21,10 +21,7 @@ pub(crate) fn no_path() -> Path
 pub fn bit_of(map: u8, i: usize) -> bool
     ensures { result ≡ Tables.bit_of map i }
 {
-    if i >= PATHS {
-        return false;
-    }
-    (map >> i) % 2 == 1
+    task::map::is_live(map as u64, i)
 }
 
 pub fn is_nothing(a: Attention) -> bool
@@ -50,14 +47,8 @@ pub fn is_cleared(a: Attention) -> bool
 fn with_reset_attention(a: Path, unmark: bool) -> Path
     ensures { result ≡ with_reset_attention unmark a }
 {
-    if unmark {
-        return Path {
-            full: false,
-            attention: Attention::Reset,
-            ..a
-        };
-    }
     Path {
+        full: a.full && !unmark,
         attention: Attention::Reset,
         ..a
     }
@@ -67,8 +58,7 @@ fn with_reset_attention(a: Path, unmark: bool) -> Path
 fn with_cleared_attention(a: Path) -> Path
     ensures { result ≡ with_cleared_attention a }
 {
-    let pending = a.attention;
-    if is_reset(pending) {
+    if is_reset(a.attention) {
         return a;
     }
     Path {
@@ -93,38 +83,28 @@ pub fn place_of(paths: [Path; PATHS], count: u8, id: u32) -> usize
 fn has_id(count: usize, id: u32, p: usize, a: Path) -> bool
     ensures { result ≡ has_id count id p a }
 {
-    if p < count {
-        return a.id == id;
-    }
-    false
+    p < count && a.id == id
 }
 
 // The path's mark set or cleared.
+#[tactic(auto, unfolding(crate::specs::Tables::marked_in))]
 pub fn mark(mut paths: [Path; PATHS], p: usize, full: bool) -> [Path; PATHS]
     ensures { result ≡ marked_in paths p full }
 {
-    if p >= PATHS {
-        return paths;
+    if p < PATHS {
+        paths[p].full = full;
     }
-    let a = paths[p];
-    let b = Path { full, ..a };
-    paths[p] = b;
     paths
 }
 
 // The path's pending attention becomes none.
+#[tactic(auto, unfolding(crate::specs::Tables::attention_gone_in))]
 pub fn drop_attention(mut paths: [Path; PATHS], p: usize) -> [Path; PATHS]
     ensures { result ≡ attention_gone_in paths p }
 {
-    if p >= PATHS {
-        return paths;
+    if p < PATHS {
+        paths[p].attention = Attention::Nothing;
     }
-    let a = paths[p];
-    let b = Path {
-        attention: Attention::Nothing,
-        ..a
-    };
-    paths[p] = b;
     paths
 }
 

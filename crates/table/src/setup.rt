@@ -43,6 +43,7 @@ fn listed(ids: &[u32]) -> [Path; PATHS]
 
 impl Table {
     // No path, no unit, no task.
+    #[tactic(auto, unfolding(crate::specs::Tables::zero_table))]
     pub fn zero() -> Table
         ensures { result ≡ zero_table }
     {
