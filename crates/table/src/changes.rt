@@ -25,10 +25,7 @@ impl Table {
     pub fn task_at(self, i: usize) -> Task
         ensures { result ≡ task_at self i }
     {
-        if i >= RECORDS {
-            return task::no_task();
-        }
-        self.tasks[i]
+        crate::at_or(&self.tasks, i, task::no_task())
     }
 
     // Whether a record is free and an arrival number is left.
@@ -86,6 +83,7 @@ impl Table {
     // The device has finished the task that runs in the record: with CONFIRM it waits to be confirmed, else it ends.
     // Where it failed, its unit gets ACA owned by its path, unless it has one. A dead record, or one whose task does
     // not run, changes nothing.
+    #[tactic(auto, using(crate::proofs::Stepping::finishes))]
     pub fn finish(mut self, i: usize, failed: bool, transferred: u64) -> Table
         ensures { result ≡ finished self i failed transferred }
     {
@@ -146,14 +144,14 @@ impl Table {
         ensures { result ≡ others_on self unit sender }
     {
         let held = self.holders(Selection::on_unit(unit)).unwrap_or(0);
-        let mut map: u8 = 0;
+        let mut others: u64 = 0;
         for p in 0..MOST_PATHS {
             let has = task::map::is_live(held, p as usize);
             if is_other_on(self.count, sender, p, has) {
-                map = with_path(map, p);
+                others = task::map::with_bit(others, p as usize);
             }
         }
-        map
+        (others % 256) as u8
     }
 }
 
@@ -171,10 +169,3 @@ fn is_other_on(count: u8, sender: u8, p: u8, has: bool) -> bool
     p < count && p != sender && has
 }
 
-// The map of a byte with bit p, which it did not have.
-fn with_path(map: u8, p: u8) -> u8
-    requires { (p < 8) × (map < 2 ^ p) }
-    ensures { result ≡ map + 2 ^ p }
-{
-    map + (1 << p)
-}

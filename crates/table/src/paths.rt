@@ -134,6 +134,7 @@ pub fn give_cleared_attention(mut paths: [Path; PATHS], others: u8) -> [Path; PA
 
 impl Table {
     // The place of an id among the listed paths, or 8.
+    #[tactic(auto, using(crate::proofs::Changing::place_fits))]
     pub fn path_of(self, id: u32) -> u8
         ensures { result ≡ path_of self id }
     {
@@ -145,10 +146,6 @@ impl Table {
     pub fn path_at(self, p: usize) -> Path
         ensures { result ≡ path_at self p }
     {
-        if p >= PATHS {
-            return no_path();
-        }
-        let paths = self.paths;
-        paths[p]
+        crate::at_or(&self.paths, p, no_path())
     }
 }

@@ -31,12 +31,7 @@ pub fn owned_by(aca: Option<u8>, path: u8) -> bool
 pub fn aca_at(units: [Unit; UNITS], unit: u8) -> Option<u8>
     ensures { result ≡ aca_at units unit }
 {
-    let u = unit as usize;
-    if u >= UNITS {
-        return None;
-    }
-    let a = units[u];
-    a.aca
+    crate::at_or(&units, unit as usize, no_unit()).aca
 }
 
 // The unit gets ACA owned by the path, unless it has one: where a finish failed, and where a rule holds the queue.
@@ -80,12 +75,7 @@ impl Table {
     pub fn unit_at(self, unit: u8) -> Unit
         ensures { result ≡ unit_at self unit }
     {
-        let u = unit as usize;
-        if u >= UNITS {
-            return no_unit();
-        }
-        let units = self.units;
-        units[u]
+        crate::at_or(&self.units, unit as usize, no_unit())
     }
 
     // Whether the unit is attached.

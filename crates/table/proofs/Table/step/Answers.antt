@@ -9,27 +9,6 @@ use Rattle.table.proofs.Stepping.{step_ways}
 use Rattle.table.proofs.Table.step.Goals.{then-picked_live, else-picked_live}
 use Rattle.table.proofs.Table.step.Goals as goal
 
-pub returns-in-Stay : goal.returns-in-Stay
-returns-in-Stay c = search step_ways
-
-pub returns-then-i-ge-RECORDS : goal.returns-then-i-ge-RECORDS
-returns-then-i-ge-RECORDS c = search (step_ways, room_ways)
-
-pub returns-then-next-gt-LAST_ARRIVAL : goal.returns-then-next-gt-LAST_ARRIVAL
-returns-then-next-gt-LAST_ARRIVAL c = search (step_ways, room_ways)
-
-pub returns-in-Accept : goal.returns-in-Accept
-returns-in-Accept c = search (step_ways, room_ways)
-
-pub returns-then-place-ge-RECORDS : goal.returns-then-place-ge-RECORDS
-returns-then-place-ge-RECORDS c = search (step_ways, alter_ways)
-
-pub returns-then-not-is_live : goal.returns-then-not-is_live
-returns-then-not-is_live c = search (step_ways, alter_ways)
-
-pub returns-in-Alter : goal.returns-in-Alter
-returns-in-Alter c = search (step_ways, alter_ways)
-
 pub loop-i-init : goal.loop-i-init
 loop-i-init c = search end_loop
 
