@@ -11,24 +11,19 @@ use mathlib.Core.List.{List}
 use mathlib.Core.Logic.{⊎_elim}
 use native.Mathlib.Nat.{le_refl, le_antisymm, le_of_eq, lt_trans}
 use native.Mathlib.Omega.{arith}
-use lib.Dec.{leb}
-use lib.ListN.{length, get_or, set, replicate, length-set}
-use borrow.Author.Tests.{lt-ltb, le-ltb, le-leb, lt-leb, not-true, not-false}
+use lib.ListN.{length, get_or, set, length-set}
 use Rattle.task.specs.Index.{first, map_at}
 use Rattle.task.specs.Tasks.{no_task}
-use Rattle.task.specs.Map.{is_live, lowest_free, with_bit, without_bit}
+use Rattle.task.specs.Map.{is_live, without_bit}
 use Rattle.task.specs.Selections.{picks, picks_live}
-use Rattle.task.specs.declared.Kind.{Kind}
-use Rattle.task.specs.declared.Sequel.{Sequel}
 use Rattle.task.specs.declared.Task.{Task}
 use Rattle.task.specs.declared.select.Selection.{Selection}
 use Rattle.task.proofs.Ways.{never}
 use Rattle.task.proofs.Places.{lt_or_le, first_before, first_none, map_of_ext}
 use Rattle.task.proofs.Lists.{map_below, map_below_ahead, map_below_zero, map_below_step, map_below_put, map_below_skip, map_below_all, length_map_below}
 use Rattle.task.proofs.Clearing.{clear_below, clear_zero, clear_step, clear_skip, clear_ahead, clear_all}
-use Rattle.table.specs.Tables.{no_path, no_unit, task_at, has_id, place_of, has_aca, picks_at, last_arrival, has_room, with_tasks, new_task, accepted, ended_by, altered_at, reset_attention_in, claimed_unit, reset_of}
+use Rattle.table.specs.Tables.{no_path, task_at, has_id, place_of, has_aca, picks_at, with_tasks, ended_by, claimed_unit}
 use Rattle.table.specs.declared.Path as path
-use Rattle.table.specs.declared.Unit as unit
 use Rattle.table.specs.declared.Table.{Table}
 use Rattle.table.proofs.Lists.{unmapped, past_end}
 
@@ -87,51 +82,6 @@ pub owner_comes : (path : ℕ) (o : Option ℕ) → has_aca o ≡ false → clai
 owner_comes path None h = refl
 owner_comes path (Some p) h = absurd (never refl h)
 
--- ---- room, and what is accepted
-
-module _ (t : Table) {i : ℕ} (e : i ≡ lowest_free t.live) where
-  pub no_record : 64 ≤ i → false ≡ has_room t
-  unfolding has_room
-  no_record h = rw (← e, le-ltb i 64 h)
-
-  pub some_record : i < 64 → leb t.next last_arrival ≡ has_room t
-  unfolding has_room
-  some_record h = rw (← e, lt-ltb i 64 h)
-
-  module _ (path tag unit : ℕ) (kind : Kind) (sequel : Sequel) where
-    pub accept_full : 64 ≤ i → t ≡ accepted t path tag unit kind sequel
-    unfolding accepted
-    accept_full h = rw (← no_record h)
-
-    pub accept_late : i < 64 → last_arrival < t.next → t ≡ accepted t path tag unit kind sequel
-    unfolding accepted
-    accept_late h l = rw (← some_record h, lt-leb _ _ l)
-
-    pub accept_put : {m : ℕ} {a : Task} → i < 64 → t.next ≤ last_arrival → m ≡ with_bit t.live i → a ≡ new_task t path tag unit kind sequel
-        → record { live = m; next = t.next + 1; count = t.count; attached = t.attached; paths = t.paths; units = t.units; tasks = set t.tasks i a } ≡ accepted t path tag unit kind sequel
-    unfolding accepted
-    accept_put h l k c = rw (← some_record h, le-leb _ _ l, ← e, k, c)
-
-pub ruleset room_ways = (no_record, some_record, accept_full, accept_late, accept_put)
-
--- ---- a live task that changes
-
-module _ (t : Table) {i : ℕ} (a : Task) where
-  pub alter_past : 64 ≤ i → t ≡ altered_at t i a
-  unfolding altered_at
-  alter_past h = rw (le-ltb i 64 h)
-
-  module _ {b : Bool} (h : i < 64) (e : b ≡ is_live t.live i) where
-    pub alter_dead : not b ≡ true → t ≡ altered_at t i a
-    unfolding altered_at
-    alter_dead k = rw (lt-ltb i 64 h, ← e, not-true b k)
-
-    pub alter_live : {c : Task} → not b ≡ false → c ≡ a → with_tasks t t.live (set t.tasks i c) ≡ altered_at t i a
-    unfolding altered_at
-    alter_live k d = rw (lt-ltb i 64 h, ← e, not-false b k, d)
-
-pub ruleset alter_ways = (alter_past, alter_dead, alter_live)
-
 -- ---- the pass that ends what is picked
 
 live_not_both : (b c : Bool) → (b && not (b && c)) ≡ (b && not c)
@@ -184,10 +134,3 @@ module _ (t : Table) (s : Selection) where
         (map_below_all wipe t.tasks no_task 64 n))
 
 pub ruleset end_loop = (end_start, end_wiped, end_kept, end_all, unmapped)
-
--- ---- total reset
-
-pub reset_all : (t : Table) {l : List path.Path} {u : unit.Unit} {a : Task} → l ≡ reset_attention_in t.paths t.count true → u ≡ no_unit → a ≡ no_task
-    → record { live = 0; next = t.next; count = t.count; attached = t.attached; paths = l; units = replicate 8 u; tasks = replicate 64 a } ≡ reset_of t
-unfolding reset_of
-reset_all t e h k = rw (e, h, k)

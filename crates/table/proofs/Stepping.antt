@@ -1,5 +1,4 @@
 -- One step of the records, what a finish makes of them, who has a task and where one runs. Assumes nothing.
---     step_ways      for `search`, the ways out of a step, by the variant
 --     finish_is_step, finish_of_none, finishes      a finish is a change of the units and a step: of a record, of none, and as `Table::finish` makes it
 --     held_loop      for `search`, the loop that gathers who has a task
 --     running_all      the end of the loop that gathers where one runs;        other_as      the paths that have one on a unit
@@ -19,8 +18,6 @@ use Rattle.task.specs.Index.{some_below, map_of}
 use Rattle.task.specs.Map.{is_live, with_bit}
 use Rattle.task.specs.Tasks.{has_confirm}
 use Rattle.task.specs.Selections.{picks, on_unit, from_on}
-use Rattle.task.specs.declared.Kind.{Kind}
-use Rattle.task.specs.declared.Sequel.{Sequel}
 use Rattle.task.specs.declared.Task.{Task}
 use Rattle.task.specs.declared.select.Selection.{Selection}
 use Rattle.task.proofs.Ways.{either_way, answered_true, answered_false}
@@ -28,35 +25,12 @@ use borrow.Author.Tests.{eq-eqb, eqb-true}
 use Rattle.task.proofs.Places.{map_of_ext, some_ext, some_none, some_at, none_at}
 use Rattle.task.proofs.Bits.{dead_zero, is_map_of, live_map_of}
 use Rattle.task.proofs.Gathering.{keyed, gathered, gather_more, gather_same, low_byte}
-use Rattle.table.specs.Tables.{task_at, picks_at, any_live, pick_of, is_other_on, others_on, with_units, accepted, ended_by, altered_at, runs_at, finished}
-use Rattle.table.specs.Steps.{altered_by, stepped, finish_step, finish_units, holds_one, holders_of, runs_picked, runs_one, running_among}
+use Rattle.table.specs.Tables.{task_at, picks_at, any_live, pick_of, is_other_on, others_on, with_units, runs_at, finished}
+use Rattle.table.specs.Steps.{stepped, finish_step, finish_units, holds_one, holders_of, runs_picked, runs_one, running_among}
 use Rattle.table.specs.declared.Unit as unit
 use Rattle.table.specs.declared.Table.{Table}
-use Rattle.table.specs.declared.steps.Alteration.{Alteration}
 use Rattle.table.specs.declared.steps.Step.{Step}
-use Rattle.table.specs.declared.steps.Step.TheVariants.{Stay, Accept, Alter, End}
 use Rattle.table.proofs.Views.{any_found}
-
--- ---- a step, by its variant
-
-module _ (t : Table) {s : Step} where
-  pub as_stay : s ≡ Stay → t ≡ stepped t s
-  unfolding stepped
-  as_stay e = rw e
-
-  pub as_accept : {path tag unit : ℕ} {kind : Kind} {sequel : Sequel} {v : Table} → s ≡ Accept path tag unit kind sequel → v ≡ accepted t path tag unit kind sequel → v ≡ stepped t s
-  unfolding stepped
-  as_accept e h = rw e h
-
-  pub as_alter : {i : ℕ} {by : Alteration} {v : Table} → s ≡ Alter i by → v ≡ altered_at t i (altered_by by (task_at t i)) → v ≡ stepped t s
-  unfolding stepped
-  as_alter e h = rw e h
-
-  pub as_end : {q : Selection} {v : Table} → s ≡ End q → v ≡ ended_by t q → v ≡ stepped t s
-  unfolding stepped
-  as_end e h = rw e h
-
-pub ruleset step_ways = (as_stay, as_accept, as_alter, as_end)
 
 -- ---- a finish of the task that stands in record i, and of a record that is none
 

@@ -114,6 +114,7 @@ impl Table {
 
     // Who has a live task that the selection picks: the map of their places in the path list, and none where nobody
     // has one. One pass over the records.
+    #[tactic(auto, using(crate::proofs::Stepping::held_loop))]
     pub fn holders(self, s: Selection) -> Option<u64>
         ensures { result ≡ holders_of self s }
     {
@@ -127,6 +128,7 @@ impl Table {
     }
 
     // The map of the units on which a live task that the selection picks runs: one pass over the records.
+    #[tactic(auto, using(crate::proofs::Stepping::running_all, task::proofs::Gathering::gather_start))]
     pub fn running_among(self, s: Selection) -> u8
         ensures { result ≡ running_among self s }
     {
@@ -140,6 +142,7 @@ impl Table {
     }
 
     // The map of the listed paths, other than the sender's, that have a live task on the unit.
+    #[tactic(auto, using(crate::proofs::Stepping::others_all, task::proofs::Gathering::gather_start))]
     pub fn others_on(self, unit: u8, sender: u8) -> u8
         ensures { result ≡ others_on self unit sender }
     {
@@ -168,4 +171,3 @@ fn is_other_on(count: u8, sender: u8, p: u8, has: bool) -> bool
 {
     p < count && p != sender && has
 }
-

@@ -68,6 +68,7 @@ fn with_cleared_attention(a: Path) -> Path
 }
 
 // The place of an id among the first `count` of the paths, or 8.
+#[tactic(auto, using(task::proofs::Loops::first_loop))]
 pub fn place_of(paths: [Path; PATHS], count: u8, id: u32) -> usize
     ensures { result ≡ place_of paths count id }
 {
@@ -109,6 +110,7 @@ pub fn drop_attention(mut paths: [Path; PATHS], p: usize) -> [Path; PATHS]
 }
 
 // Reset attention on each of the first `count` paths, and with `unmark` its mark gone.
+#[tactic(auto, using(crate::proofs::Changing::paths_start))]
 pub fn give_reset_attention(mut paths: [Path; PATHS], count: u8, unmark: bool) -> [Path; PATHS]
     ensures { result ≡ reset_attention_in paths count unmark }
 {
@@ -121,6 +123,7 @@ pub fn give_reset_attention(mut paths: [Path; PATHS], count: u8, unmark: bool) -
 }
 
 // Cleared attention on each path of the map, unless reset is pending.
+#[tactic(auto, using(crate::proofs::Changing::paths_start))]
 pub fn give_cleared_attention(mut paths: [Path; PATHS], others: u8) -> [Path; PATHS]
     ensures { result ≡ cleared_attention_in paths others }
 {

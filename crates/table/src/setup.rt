@@ -7,6 +7,7 @@ use crate::{Attention, PATHS, Path, Table, UNITS};
 use task::RECORDS;
 
 // Whether the list has no path, over 8, or an id twice.
+#[tactic(auto, using(task::proofs::Loops::some_loop, crate::proofs::Setting::seen_law), unfolding(crate::specs::Setup::bad_list))]
 pub fn bad_list(ids: &[u32]) -> bool
     ensures { result ≡ bad_list ids.now }
 {
@@ -25,6 +26,7 @@ pub fn bad_list(ids: &[u32]) -> bool
 }
 
 // The path list of setup: each id with no mark and reset attention, the rest wiped.
+#[tactic(auto, using(crate::proofs::Setting::list_loop))]
 fn listed(ids: &[u32]) -> [Path; PATHS]
     requires { length ids.now ≤ 8 }
     ensures { result ≡ paths_of ids.now }

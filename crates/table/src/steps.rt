@@ -80,7 +80,7 @@ fn altered(a: Task, by: Alteration) -> Task
 impl Table {
     // The step, where the records stand. All steps are one function: so the compiler keeps it apart from the calls, and
     // a call has one table of its own on the stack, and this one below it.
-    #[tactic(auto, unfolding(crate::specs::Steps::stepped, crate::specs::Tables::accepted, crate::specs::Tables::has_room, crate::specs::Tables::altered_at))]
+    #[tactic(auto, using(crate::proofs::Changing::end_loop), unfolding(crate::specs::Steps::stepped, crate::specs::Tables::accepted, crate::specs::Tables::has_room, crate::specs::Tables::altered_at))]
     pub fn step(mut self, s: Step) -> Table
         ensures { result ≡ stepped self s }
     {

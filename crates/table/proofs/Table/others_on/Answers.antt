@@ -3,14 +3,11 @@ use Prim.Native.Nat.{◌<◌}
 use mathlib.Core.Path.{◌≡◌, ◌∙◌}
 use native.Mathlib.Omega.{arith}
 use borrow.Author.Rules.{rules}
-use Rattle.task.proofs.Gathering.{gather_start, gather_more, gather_same}
+use Rattle.task.proofs.Gathering.{gather_more, gather_same}
 use Rattle.table.proofs.Lists.{unmapped}
-use Rattle.table.proofs.Stepping.{other_as, others_all}
+use Rattle.table.proofs.Stepping.{other_as}
 use Rattle.table.proofs.Table.others_on.Goals.{then-is_other_on, else-is_other_on}
 use Rattle.table.proofs.Table.others_on.Goals as goal
-
-pub loop-p-init : goal.loop-p-init
-loop-p-init c = gather_start _ _
 
 pub loop-p-preserved : goal.loop-p-preserved
 loop-p-preserved c =
@@ -22,6 +19,3 @@ loop-p-preserved c =
       | then-is_other_on w ↦ gather_more _ _ _ loop.invariant e w.if-is_other_on.true (w.others-is ∙ w.with_bit-others.ensures)
       | else-is_other_on w ↦ gather_same _ _ _ loop.invariant e w.if-is_other_on.false w.others-is
     ]
-
-pub returns : goal.returns
-returns c = search others_all

@@ -4,13 +4,10 @@ use Prim.Native.Nat.{◌<◌}
 use native.Mathlib.Omega.{arith}
 use borrow.Author.Rules.{rules}
 use Rattle.table.proofs.Lists.{unmapped}
-use Rattle.table.proofs.Changing.{room_ways, alter_ways, end_wiped, end_kept, end_loop}
-use Rattle.table.proofs.Stepping.{step_ways}
+use Rattle.table.proofs.Changing.{end_wiped, end_kept, end_loop}
 use Rattle.table.proofs.Table.step.Goals.{then-picked_live, else-picked_live}
+use Rattle.table.specs.Steps.{stepped}
 use Rattle.table.proofs.Table.step.Goals as goal
-
-pub loop-i-init : goal.loop-i-init
-loop-i-init c = search end_loop
 
 pub loop-i-preserved : goal.loop-i-preserved
 loop-i-preserved c =
@@ -23,4 +20,5 @@ loop-i-preserved c =
     ]
 
 pub returns-in-End : goal.returns-in-End
-returns-in-End c = search (rules, step_ways, end_loop)
+unfolding stepped
+returns-in-End c = rw c.in-End.is (search (rules, end_loop))
