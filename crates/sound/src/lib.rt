@@ -23,34 +23,33 @@ fn count_ok(t: Table) -> bool
 }
 
 // Every listed path is the first with its id.
+#[tactic(auto, using(task::proofs::Loops::all_loop), unfolding(crate::specs::Sound::paths_distinct))]
 fn paths_distinct(t: Table) -> bool
     ensures { result ≡ paths_distinct t }
 {
     for (p, a) in t.paths.iter().enumerate() {
-        if p < t.count as usize {
-            if table::paths::place_of(t.paths, t.count, a.id) != p {
-                return false;
-            }
+        if p < t.count as usize && table::paths::place_of(t.paths, t.count, a.id) != p {
+            return false;
         }
     }
     true
 }
 
 // Unused paths all zero.
+#[tactic(auto, using(task::proofs::Loops::all_loop), unfolding(crate::specs::Sound::unused_zero))]
 fn unused_zero(t: Table) -> bool
     ensures { result ≡ unused_zero t }
 {
     for (p, a) in t.paths.iter().enumerate() {
-        if p >= t.count as usize {
-            if !is_no_path(*a) {
-                return false;
-            }
+        if p >= t.count as usize && !is_no_path(*a) {
+            return false;
         }
     }
     true
 }
 
 // Each record: a live one in order, a dead one all zero.
+#[tactic(auto, using(task::proofs::Loops::all_loop), unfolding(crate::specs::Sound::records_ok))]
 fn records_ok(t: Table) -> bool
     ensures { result ≡ records_ok t }
 {
@@ -64,6 +63,7 @@ fn records_ok(t: Table) -> bool
 }
 
 // Each unit's ACA.
+#[tactic(auto, using(task::proofs::Loops::all_loop), unfolding(crate::specs::Sound::units_ok))]
 fn units_ok(t: Table) -> bool
     ensures { result ≡ units_ok t }
 {
@@ -77,6 +77,7 @@ fn units_ok(t: Table) -> bool
 
 // The pairwise walk over the records, left at the first clash. A live record is held against those below it only where
 // the map of what was seen says that one of them may share something with it.
+#[tactic(auto, using(task::proofs::Loops::some_loop), unfolding(crate::specs::Sound::clashes, task::specs::Index::some_below, crate::specs::Seen::seen_below))]
 fn clashes(t: Table) -> bool
     ensures { result ≡ Sound.clashes t }
 {

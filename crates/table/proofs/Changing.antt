@@ -1,8 +1,6 @@
--- The answers of paths, units and changes: a lemma for each way out, and for each turn of a loop. Assumes nothing.
---     bounded                  for `search`, a choice by a bound
---     end_loop      for `search (rules, ..)`, the turns of the loop over the records;        path_through, path_kept      those of the loops over the paths
---     others_loop      for `search`, the start, the bound and the end of the loop over the others; its turns are others_add and others_skip
---     aca_ways, room_ways, alter_ways      for `search`, the ways out of the functions on ACA, on room and acceptance, and on a record that changes
+-- The loops over the paths and over the records, a unit's ACA, and that a place fits. Assumes nothing.
+--     path_through, path_kept      the turns of the loops over the paths
+--     end_loop      for `search (rules, ..)`, the turns of the loop over the records
 use Rattle.std.specs.Prelude.{Option, Some, None}
 use Prim.Native.Nat.{ℕ, ◌+◌, ◌^◌, ◌≤◌, ◌<◌}
 use mathlib.Core.Path.{◌≡◌, refl, sym, ap, ap₂, ◌∙◌}

@@ -1,5 +1,5 @@
 -- Setup: the path list as a loop fills it, a bad list, the table. Assumes nothing.
---     list_loop, list_ways, setup_ways      for `search`, of `listed`, `bad_list` and `Table::new`
+--     list_loop, setup_ways      of `listed` and `Table::new`
 use Prim.Native.Nat.{ℕ, zero, suc, ◌+◌, ◌-◌, ◌≤◌, ◌<◌}
 use mathlib.Core.Path.{◌≡◌, sym, ap, ◌∙◌}
 use mathlib.Core.Bool.{Bool, true, false, or-true}

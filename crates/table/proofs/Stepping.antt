@@ -1,7 +1,7 @@
--- One step of the records, what a finish makes of them, who has a task and where one runs. Assumes nothing.
+-- What a finish makes of the records, who has a task and where one runs. Assumes nothing.
 --     finish_is_step, finish_of_none, finishes      a finish is a change of the units and a step: of a record, of none, and as `Table::finish` makes it
 --     held_loop      for `search`, the loop that gathers who has a task
---     running_all      the end of the loop that gathers where one runs;        other_as      the paths that have one on a unit
+--     running_all      the end of the loop that gathers where one runs;        other_as, others_all      the paths that have one on a unit
 use Prim.Native.Nat.{ℕ, ◌+◌, ◌%◌, ◌≤◌, ◌<◌}
 use mathlib.Core.Path.{◌≡◌, refl, sym, ap, ap₂, ◌∙◌}
 use mathlib.Core.Bool.{Bool, true, false, cond, not, ◌&&◌, or-false, and-true, and-false}

@@ -67,7 +67,7 @@ impl Table {
     }
 
     // The table that setup gives, and the all-zero one for a bad list of paths.
-    #[tactic(auto, using(crate::proofs::Setting::not_over, crate::proofs::Setting::setup_refused, crate::proofs::Setting::setup_made))]
+    #[tactic(auto, using(crate::proofs::Setting::setup_ways))]
     pub fn new(ids: &[u32], attached: u8, first: u64) -> Table
         ensures { result ≡ setup_table ids.now attached first }
     {
