@@ -1,6 +1,6 @@
 // Tasks: the scan that the table lends its records to, who has a task and where one runs; what is accepted, started, restarted,
 // finished, ended and reset. These are a step of steps.rt each, finish with a change of the units; reset is none.
-ghost use Rattle.std.specs.Prelude.{◌≡◌, ◌&&◌, not, ltb, eqb, ◌<◌, ◌+◌, ◌^◌};
+ghost use Rattle.std.specs.Prelude.{◌≡◌, ◌&&◌, not, ltb, eqb};
 ghost use Rattle.table.specs.Tables.{task_at, pick_of, has_room, accepted, ended_by, started, restarted, finished, reset_of, others_on};
 ghost use Rattle.task.specs.Tasks.{is_running};
 ghost use Rattle.task.specs.Selections.{picks_live};
@@ -88,9 +88,7 @@ impl Table {
         ensures { result ≡ finished self i failed transferred }
     {
         let a = self.task_at(i);
-        let units = self.units;
-        let claimed = crate::steps::finish_units(units, self.live, i, a, failed);
-        self.units = claimed;
+        self.units = crate::steps::finish_units(self.units, self.live, i, a, failed);
         self.step(crate::steps::finish_step(self.live, i, a, transferred))
     }
 
@@ -99,16 +97,10 @@ impl Table {
     pub fn reset(mut self) -> Table
         ensures { result ≡ reset_of self }
     {
-        let paths = self.paths;
-        let reset = crate::paths::give_reset_attention(paths, self.count, true);
-        let unit = crate::units::no_unit();
-        let units = [unit; UNITS];
-        let task = task::no_task();
-        let tasks = [task; RECORDS];
         self.live = 0;
-        self.paths = reset;
-        self.units = units;
-        self.tasks = tasks;
+        self.paths = crate::paths::give_reset_attention(self.paths, self.count, true);
+        self.units = [crate::units::no_unit(); UNITS];
+        self.tasks = [task::no_task(); RECORDS];
         self
     }
 

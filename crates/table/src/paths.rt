@@ -24,13 +24,13 @@ pub fn bit_of(map: u8, i: usize) -> bool
     task::map::is_live(map as u64, i)
 }
 
+// Which attention is pending.
 pub fn is_nothing(a: Attention) -> bool
     ensures { result ≡ is_nothing a }
 {
     a == Attention::Nothing
 }
 
-// Which attention is pending.
 pub fn is_reset(a: Attention) -> bool
     ensures { result ≡ is_reset a }
 {
@@ -141,8 +141,7 @@ impl Table {
     pub fn path_of(self, id: u32) -> u8
         ensures { result ≡ path_of self id }
     {
-        let paths = self.paths;
-        place_of(paths, self.count, id) as u8
+        place_of(self.paths, self.count, id) as u8
     }
 
     // The path at a place, and a wiped one past the end.

@@ -11,10 +11,7 @@ use task::RECORDS;
 pub fn bad_list(ids: &[u32]) -> bool
     ensures { result ≡ bad_list ids.now }
 {
-    if ids.is_empty() {
-        return true;
-    }
-    if ids.len() > PATHS {
+    if ids.is_empty() || ids.len() > PATHS {
         return true;
     }
     for (i, id) in ids.iter().enumerate() {
@@ -31,8 +28,7 @@ fn listed(ids: &[u32]) -> [Path; PATHS]
     requires { length ids.now ≤ 8 }
     ensures { result ≡ paths_of ids.now }
 {
-    let none = crate::paths::no_path();
-    let mut paths = [none; PATHS];
+    let mut paths = [crate::paths::no_path(); PATHS];
     for (i, id) in ids.iter().enumerate() {
         paths[i] = Path {
             id: *id,
@@ -49,20 +45,14 @@ impl Table {
     pub fn zero() -> Table
         ensures { result ≡ zero_table }
     {
-        let path = crate::paths::no_path();
-        let unit = crate::units::no_unit();
-        let task = task::no_task();
-        let paths = [path; PATHS];
-        let units = [unit; UNITS];
-        let tasks = [task; RECORDS];
         Table {
             live: 0,
             next: 0,
             count: 0,
             attached: 0,
-            paths,
-            units,
-            tasks,
+            paths: [crate::paths::no_path(); PATHS],
+            units: [crate::units::no_unit(); UNITS],
+            tasks: [task::no_task(); RECORDS],
         }
     }
 
@@ -75,11 +65,10 @@ impl Table {
         if bad_list(ids) {
             return t;
         }
-        let paths = listed(ids);
         t.next = first;
         t.count = ids.len() as u8;
         t.attached = attached;
-        t.paths = paths;
+        t.paths = listed(ids);
         t
     }
 }

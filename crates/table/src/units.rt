@@ -40,14 +40,9 @@ pub fn claim(mut units: [Unit; UNITS], unit: u8, path: u8) -> [Unit; UNITS]
     ensures { result ≡ claimed_in units unit path }
 {
     let u = unit as usize;
-    if u >= UNITS {
-        return units;
+    if u < UNITS && !has_aca(units[u].aca) {
+        units[u].aca = Some(path);
     }
-    let a = units[u];
-    if has_aca(a.aca) {
-        return units;
-    }
-    units[u] = Unit { aca: Some(path) };
     units
 }
 
