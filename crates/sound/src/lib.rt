@@ -77,7 +77,7 @@ fn units_ok(t: Table) -> bool
 
 // The pairwise walk over the records, left at the first clash. A live record is held against those below it only where
 // the map of what was seen says that one of them may share something with it.
-#[tactic(auto, using(task::proofs::Loops::some_loop), unfolding(crate::specs::Sound::clashes, task::specs::Index::some_below, crate::specs::Seen::seen_below))]
+#[tactic(auto, using(task::proofs::Loops::some_loop))]
 fn clashes(t: Table) -> bool
     ensures { result ≡ Sound.clashes t }
 {

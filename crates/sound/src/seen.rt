@@ -54,25 +54,17 @@ fn is_seen(seen: &[u64], k: usize) -> bool
     ensures { result ≡ is_seen seen.now k }
 {
     let w = k / WORD;
-    if w >= seen.len() {
-        return false;
-    }
-    task::map::is_live(seen[w], k % WORD)
+    w < seen.len() && task::map::is_live(seen[w], k % WORD)
 }
 
 // Bit k set, where it is asked for; past the map's end nothing changes.
 fn set_bit_if(asked: bool, seen: &mut [u64], k: usize)
     ensures { seen.new ≡ with_seen_if asked seen.old k }
 {
-    if !asked {
-        return;
-    }
     let w = k / WORD;
-    if w >= seen.len() {
-        return;
+    if asked && w < seen.len() {
+        seen[w] = task::map::with_bit(seen[w], k % WORD);
     }
-    let word = task::map::with_bit(seen[w], k % WORD);
-    seen[w] = word;
 }
 
 // Whether one of the task's bits is set.

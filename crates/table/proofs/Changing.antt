@@ -1,6 +1,6 @@
 -- The loops over the paths and over the records, a unit's ACA, and that a place fits. Assumes nothing.
 --     path_through, path_kept      the turns of the loops over the paths
---     end_loop      for `search (rules, ..)`, the turns of the loop over the records
+--     end_loop      for `search (rules, ..)`, the turns of the loop over the records;        owner_ways      of `claim`
 use Rattle.std.specs.Prelude.{Option, Some, None}
 use Prim.Native.Nat.{ℕ, ◌+◌, ◌^◌, ◌≤◌, ◌<◌}
 use mathlib.Core.Path.{◌≡◌, refl, sym, ap, ap₂, ◌∙◌}
@@ -79,6 +79,8 @@ owner_stays path (Some p) h = refl
 pub owner_comes : (path : ℕ) (o : Option ℕ) → has_aca o ≡ false → claimed_unit path (record { aca = o }) ≡ record { aca = Some path }
 owner_comes path None h = refl
 owner_comes path (Some p) h = absurd (never refl h)
+
+pub ruleset owner_ways = (owner_stays, owner_comes)
 
 -- ---- the pass that ends what is picked
 

@@ -7,7 +7,7 @@ use crate::{Attention, PATHS, Path, Table, UNITS};
 use task::RECORDS;
 
 // Whether the list has no path, over 8, or an id twice.
-#[tactic(auto, using(task::proofs::Loops::some_loop, crate::proofs::Setting::seen_law), unfolding(crate::specs::Setup::bad_list))]
+#[tactic(auto, using(crate::proofs::Setting::bad_ways), unfolding(crate::specs::Setup::bad_list))]
 pub fn bad_list(ids: &[u32]) -> bool
     ensures { result ≡ bad_list ids.now }
 {

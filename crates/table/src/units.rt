@@ -35,7 +35,7 @@ pub fn aca_at(units: [Unit; UNITS], unit: u8) -> Option<u8>
 }
 
 // The unit gets ACA owned by the path, unless it has one: where a finish failed, and where a rule holds the queue.
-#[tactic(auto, using(crate::proofs::Changing::owner_stays, crate::proofs::Changing::owner_comes), unfolding(crate::specs::Tables::claimed_in))]
+#[tactic(auto, using(crate::proofs::Changing::owner_ways), unfolding(crate::specs::Tables::claimed_in))]
 pub fn claim(mut units: [Unit; UNITS], unit: u8, path: u8) -> [Unit; UNITS]
     ensures { result ≡ claimed_in units unit path }
 {

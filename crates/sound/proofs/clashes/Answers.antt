@@ -5,11 +5,17 @@ use mathlib.Core.Path.{◌≡◌, refl, ◌∙◌}
 use mathlib.Core.Bool.{false}
 use native.Mathlib.Omega.{arith}
 use Rattle.task.proofs.Loops.{some_more, some_hit, some_end}
+use Rattle.task.specs.Index.{some_below}
+use Rattle.sound.specs.Seen.{seen_below}
 use Rattle.sound.specs.Sound.{clashes}
 use Rattle.sound.proofs.Checking.{clash_at, clash_below}
 use Rattle.sound.proofs.SeenCases.{clear_clashes, dead_clashes, live_bits, dead_bits}
 use Rattle.sound.proofs.clashes.Goals.{then-is_live, then-may_clash+else-loop-j-test, else-may_clash, else-is_live}
 use Rattle.sound.proofs.clashes.Goals as goal
+
+pub walk-init : goal.walk-init
+unfolding some_below seen_below
+walk-init c = (refl, refl, refl)
 
 pub walk-preserved : goal.walk-preserved
 walk-preserved c =
