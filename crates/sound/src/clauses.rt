@@ -1,9 +1,10 @@
 // The clauses of page 01's "Sound means": a small function for each, of one path, one unit, one record or two.
 ghost use Rattle.std.specs.Prelude.{◌≡◌};
+ghost use Rattle.table.specs.Tables.{aca_at};
 ghost use Rattle.sound.specs.Sound;
 ghost use Rattle.sound.specs.Sound.{is_no_path, is_no_task, may_stand, live_ok, record_ok, unit_ok, cannot_share_unit, clash_of};
 
-use table::{Attention, Path, Unit};
+use table::{Attention, Path, Table, Unit};
 use task::Task;
 
 // A path all zero.
@@ -33,41 +34,33 @@ fn may_stand(aca: Option<u8>, a: Task) -> bool
 
 // A live record names a listed path and an attached unit, its arrival number lies below the next, and it may stand
 // under its unit's ACA.
-fn live_ok(next: u64, count: u8, attached: u8, aca: Option<u8>, a: Task) -> bool
-    ensures { result ≡ live_ok next count attached aca a }
+fn live_ok(t: &Table, a: Task) -> bool
+    ensures { result ≡ live_ok t.now.next t.now.count t.now.attached (aca_at t.now.units a.unit) a }
 {
-    a.path < count
-        && table::paths::bit_of(attached, a.unit as usize)
-        && a.arrival < next
-        && may_stand(aca, a)
+    a.path < t.count
+        && table::paths::bit_of(t.attached, a.unit as usize)
+        && a.arrival < t.next
+        && may_stand(table::units::aca_at(t.units, a.unit), a)
 }
 
 // Record i: a live task in order, or a dead record all zero.
-pub(crate) fn record_ok(
-    live: u64,
-    next: u64,
-    count: u8,
-    attached: u8,
-    aca: Option<u8>,
-    i: usize,
-    a: Task,
-) -> bool
-    ensures { result ≡ record_ok live next count attached aca i a }
+pub(crate) fn record_ok(t: &Table, i: usize, a: Task) -> bool
+    ensures { let aca = aca_at t.now.units a.unit in result ≡ record_ok t.now.live t.now.next t.now.count t.now.attached aca i a }
 {
-    if task::map::is_live(live, i) {
-        live_ok(next, count, attached, aca, a)
+    if task::map::is_live(t.live, i) {
+        live_ok(t, a)
     } else {
         is_no_task(a)
     }
 }
 
 // A unit's ACA only if it is attached, with a listed owner.
-pub(crate) fn unit_ok(count: u8, attached: u8, u: usize, a: Unit) -> bool
-    ensures { result ≡ unit_ok count attached u a }
+pub(crate) fn unit_ok(t: &Table, u: usize, a: Unit) -> bool
+    ensures { result ≡ unit_ok t.now.count t.now.attached u a }
 {
     match a.aca {
         None => true,
-        Some(p) => p < count && table::paths::bit_of(attached, u),
+        Some(p) => p < t.count && table::paths::bit_of(t.attached, u),
     }
 }
 

@@ -54,8 +54,7 @@ fn records_ok(t: Table) -> bool
     ensures { result ≡ records_ok t }
 {
     for (i, a) in t.tasks.iter().enumerate() {
-        let aca = table::units::aca_at(t.units, a.unit);
-        if !record_ok(t.live, t.next, t.count, t.attached, aca, i, *a) {
+        if !record_ok(&t, i, *a) {
             return false;
         }
     }
@@ -68,7 +67,7 @@ fn units_ok(t: Table) -> bool
     ensures { result ≡ units_ok t }
 {
     for (u, a) in t.units.iter().enumerate() {
-        if !unit_ok(t.count, t.attached, u, *a) {
+        if !unit_ok(&t, u, *a) {
             return false;
         }
     }

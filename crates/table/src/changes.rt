@@ -21,11 +21,16 @@ impl Table {
         task::scan::next_of(&self.tasks, self.live, s)
     }
 
-    // The record at a place, and a wiped one past the end.
+    // The record at a place, and a wiped one past the end: not by `at_or`, which would have the table copied, as `path_at`
+    // says.
     pub fn task_at(self, i: usize) -> Task
         ensures { result ≡ task_at self i }
     {
-        crate::at_or(&self.tasks, i, task::no_task())
+        if i < RECORDS {
+            self.tasks[i]
+        } else {
+            task::no_task()
+        }
     }
 
     // Whether a record is free and an arrival number is left.

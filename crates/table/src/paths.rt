@@ -144,10 +144,12 @@ impl Table {
         place_of(self.paths, self.count, id) as u8
     }
 
-    // The path at a place, and a wiped one past the end.
+    // The path at a place, and a wiped one past the end. The paths alone are copied: where they are lent out of the
+    // table, the compiler copies all of it.
     pub fn path_at(self, p: usize) -> Path
         ensures { result ≡ path_at self p }
     {
-        crate::at_or(&self.paths, p, no_path())
+        let paths = self.paths;
+        crate::at_or(&paths, p, no_path())
     }
 }

@@ -66,11 +66,12 @@ pub fn clear_aca(mut units: [Unit; UNITS], place: Place) -> [Unit; UNITS]
 }
 
 impl Table {
-    // A unit, and a wiped one past the end.
+    // A unit, and a wiped one past the end. The units alone are copied, as the paths are in `path_at`.
     pub fn unit_at(self, unit: u8) -> Unit
         ensures { result ≡ unit_at self unit }
     {
-        crate::at_or(&self.units, unit as usize, no_unit())
+        let units = self.units;
+        crate::at_or(&units, unit as usize, no_unit())
     }
 
     // Whether the unit is attached.
