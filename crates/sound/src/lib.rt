@@ -15,50 +15,46 @@ pub mod clauses;
 mod seen;
 
 // 1 to 8 paths.
+#[tactic(auto, unfolding(crate::specs::Sound::count_ok))]
 fn count_ok(t: Table) -> bool
     ensures { result ≡ count_ok t }
 {
-    if t.count == 0 {
-        return false;
-    }
-    t.count as usize <= PATHS
+    t.count != 0 && t.count as usize <= PATHS
 }
 
 // Every listed path is the first with its id.
+#[tactic(auto, using(task::proofs::Loops::all_loop), unfolding(crate::specs::Sound::paths_distinct))]
 fn paths_distinct(t: Table) -> bool
     ensures { result ≡ paths_distinct t }
 {
     for (p, a) in t.paths.iter().enumerate() {
-        if p < t.count as usize {
-            if table::paths::place_of(t.paths, t.count, a.id) != p {
-                return false;
-            }
+        if p < t.count as usize && table::paths::place_of(t.paths, t.count, a.id) != p {
+            return false;
         }
     }
     true
 }
 
 // Unused paths all zero.
+#[tactic(auto, using(task::proofs::Loops::all_loop), unfolding(crate::specs::Sound::unused_zero))]
 fn unused_zero(t: Table) -> bool
     ensures { result ≡ unused_zero t }
 {
     for (p, a) in t.paths.iter().enumerate() {
-        if p >= t.count as usize {
-            if !is_no_path(*a) {
-                return false;
-            }
+        if p >= t.count as usize && !is_no_path(*a) {
+            return false;
         }
     }
     true
 }
 
 // Each record: a live one in order, a dead one all zero.
+#[tactic(auto, using(task::proofs::Loops::all_loop), unfolding(crate::specs::Sound::records_ok))]
 fn records_ok(t: Table) -> bool
     ensures { result ≡ records_ok t }
 {
     for (i, a) in t.tasks.iter().enumerate() {
-        let aca = table::units::aca_at(t.units, a.unit);
-        if !record_ok(t.live, t.next, t.count, t.attached, aca, i, *a) {
+        if !record_ok(&t, i, *a) {
             return false;
         }
     }
@@ -66,11 +62,12 @@ fn records_ok(t: Table) -> bool
 }
 
 // Each unit's ACA.
+#[tactic(auto, using(task::proofs::Loops::all_loop), unfolding(crate::specs::Sound::units_ok))]
 fn units_ok(t: Table) -> bool
     ensures { result ≡ units_ok t }
 {
     for (u, a) in t.units.iter().enumerate() {
-        if !unit_ok(t.count, t.attached, u, *a) {
+        if !unit_ok(&t, u, *a) {
             return false;
         }
     }
@@ -79,6 +76,7 @@ fn units_ok(t: Table) -> bool
 
 // The pairwise walk over the records, left at the first clash. A live record is held against those below it only where
 // the map of what was seen says that one of them may share something with it.
+#[tactic(auto, using(task::proofs::Loops::some_loop))]
 fn clashes(t: Table) -> bool
     ensures { result ≡ Sound.clashes t }
 {
@@ -103,23 +101,14 @@ fn clashes(t: Table) -> bool
 }
 
 // Whether the table is sound.
+#[tactic(auto, unfolding(crate::specs::Sound::sound_of))]
 pub fn is_sound(t: Table) -> bool
     ensures { result ≡ sound_of t }
 {
-    if !count_ok(t) {
-        return false;
-    }
-    if !paths_distinct(t) {
-        return false;
-    }
-    if !unused_zero(t) {
-        return false;
-    }
-    if !records_ok(t) {
-        return false;
-    }
-    if !units_ok(t) {
-        return false;
-    }
-    !clashes(t)
+    count_ok(t)
+        && paths_distinct(t)
+        && unused_zero(t)
+        && records_ok(t)
+        && units_ok(t)
+        && !clashes(t)
 }

@@ -54,58 +54,37 @@ fn is_seen(seen: &[u64], k: usize) -> bool
     ensures { result ≡ is_seen seen.now k }
 {
     let w = k / WORD;
-    if w >= seen.len() {
-        return false;
-    }
-    task::map::is_live(seen[w], k % WORD)
+    w < seen.len() && task::map::is_live(seen[w], k % WORD)
 }
 
 // Bit k set, where it is asked for; past the map's end nothing changes.
 fn set_bit_if(asked: bool, seen: &mut [u64], k: usize)
     ensures { seen.new ≡ with_seen_if asked seen.old k }
 {
-    if !asked {
-        return;
-    }
     let w = k / WORD;
-    if w >= seen.len() {
-        return;
+    if asked && w < seen.len() {
+        seen[w] = task::map::with_bit(seen[w], k % WORD);
     }
-    let word = task::map::with_bit(seen[w], k % WORD);
-    seen[w] = word;
 }
 
 // Whether one of the task's bits is set.
+#[tactic(auto, unfolding(crate::specs::Seen::may_clash))]
 pub(crate) fn may_clash(seen: &[u64], a: Task) -> bool
     ensures { result ≡ Seen.may_clash seen.now a }
 {
-    if is_seen(seen, name_bit(a)) {
-        return true;
-    }
-    if is_seen(seen, number_bit(a)) {
-        return true;
-    }
-    let phase = a.phase;
-    if task::is_running(phase) {
-        if is_seen(seen, running_bit(a)) {
-            return true;
-        }
-    }
-    let kind = a.kind;
-    if task::is_aca(kind) {
-        return is_seen(seen, aca_bit(a));
-    }
-    false
+    is_seen(seen, name_bit(a))
+        || is_seen(seen, number_bit(a))
+        || (task::is_running(a.phase) && is_seen(seen, running_bit(a)))
+        || (task::is_aca(a.kind) && is_seen(seen, aca_bit(a)))
 }
 
 // The task's bits set.
+#[tactic(auto, unfolding(crate::specs::Seen::with_bits_of))]
 pub(crate) fn set_bits(seen: &mut [u64], a: Task)
     ensures { seen.new ≡ with_bits_of seen.old a }
 {
-    let phase = a.phase;
-    let kind = a.kind;
     set_bit_if(true, seen, name_bit(a));
     set_bit_if(true, seen, number_bit(a));
-    set_bit_if(task::is_running(phase), seen, running_bit(a));
-    set_bit_if(task::is_aca(kind), seen, aca_bit(a));
+    set_bit_if(task::is_running(a.phase), seen, running_bit(a));
+    set_bit_if(task::is_aca(a.kind), seen, aca_bit(a));
 }

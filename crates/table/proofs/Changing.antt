@@ -1,8 +1,6 @@
--- The answers of paths, units and changes: a lemma for each way out, and for each turn of a loop. Assumes nothing.
---     bounded                  for `search`, a choice by a bound
---     end_loop      for `search (rules, ..)`, the turns of the loop over the records;        path_through, path_kept      those of the loops over the paths
---     others_loop      for `search`, the start, the bound and the end of the loop over the others; its turns are others_add and others_skip
---     aca_ways, room_ways, alter_ways      for `search`, the ways out of the functions on ACA, on room and acceptance, and on a record that changes
+-- The loops over the paths and over the records, a unit's ACA, and that a place fits. Assumes nothing.
+--     path_through, path_kept      the turns of the loops over the paths
+--     end_loop      for `search (rules, ..)`, the turns of the loop over the records;        owner_ways      of `claim`
 use Rattle.std.specs.Prelude.{Option, Some, None}
 use Prim.Native.Nat.{ℕ, ◌+◌, ◌^◌, ◌≤◌, ◌<◌}
 use mathlib.Core.Path.{◌≡◌, refl, sym, ap, ap₂, ◌∙◌}
@@ -11,32 +9,22 @@ use mathlib.Core.List.{List}
 use mathlib.Core.Logic.{⊎_elim}
 use native.Mathlib.Nat.{le_refl, le_antisymm, le_of_eq, lt_trans}
 use native.Mathlib.Omega.{arith}
-use lib.Dec.{leb}
-use lib.ListN.{length, get_or, set, replicate, length-set}
-use lib.Seq.{set-get_or}
-use borrow.Author.Tests.{lt-ltb, le-ltb, le-leb, lt-leb, not-true, not-false}
-use Rattle.task.specs.Index.{first, map_of, map_at}
+use lib.ListN.{length, get_or, set, length-set}
+use Rattle.task.specs.Index.{first, map_at}
 use Rattle.task.specs.Tasks.{no_task}
-use Rattle.task.specs.Map.{is_live, lowest_free, with_bit, without_bit}
+use Rattle.task.specs.Map.{is_live, without_bit}
 use Rattle.task.specs.Selections.{picks, picks_live}
-use Rattle.wire.specs.declared.codes.Kind.{Kind}
-use Rattle.task.specs.declared.Sequel.{Sequel}
 use Rattle.task.specs.declared.Task.{Task}
 use Rattle.task.specs.declared.select.Selection.{Selection}
-use Rattle.task.proofs.Ways.{never, cond_below, cond_past, answered_true, answered_false}
+use Rattle.task.proofs.Ways.{never}
 use Rattle.std.specs.Prelude.{Option, Some, None}
 use Rattle.task.proofs.Places.{lt_or_le, first_before, first_none, map_of_ext}
 use Rattle.task.proofs.Lists.{map_below, map_below_ahead, map_below_zero, map_below_step, map_below_put, map_below_skip, map_below_all, length_map_below}
-use Rattle.task.proofs.Bits.{map_of_lt}
-use Rattle.task.proofs.Loops.{map_of_start, map_of_add, map_of_skip}
 use Rattle.task.proofs.Clearing.{clear_below, clear_zero, clear_step, clear_skip, clear_ahead, clear_all}
-use Rattle.table.specs.Tables.{no_path, no_unit, task_at, has_id, place_of, has_aca, aca_at, picks_at, last_arrival, has_room, with_tasks, new_task, accepted, ended_by, altered_at, reset_attention_in, is_other_on, others_on, claimed_unit, claimed_in, aca_cleared_in, reset_of}
+use Rattle.table.specs.Tables.{no_path, task_at, has_id, place_of, has_aca, picks_at, with_tasks, ended_by, claimed_unit}
 use Rattle.table.specs.declared.Path as path
-use Rattle.table.specs.declared.Unit as unit
 use Rattle.table.specs.declared.Table.{Table}
 use Rattle.table.proofs.Lists.{unmapped, past_end}
-
-pub ruleset bounded = (cond_below, cond_past)
 
 -- ---- the place of an id is at most 8
 
@@ -45,11 +33,6 @@ unfolding place_of
 place_fits paths count id e =
     let p : ℕ → Bool = λ q. has_id count id q (get_or paths q no_path) in
     rw e (⊎_elim (λ l. le_of_eq (first_none 8 p (λ k m. first_before 8 k p (lt_trans m l)))) (λ l. l) (lt_or_le 8 (first 8 p)))
-
--- ---- an ACA past the end
-
-pub no_aca : (units : List unit.Unit) (u : ℕ) → length units ≡ 8 → 8 ≤ u → None ≡ aca_at units u
-no_aca units u e h = ap (λ (a : unit.Unit). a.aca) (past_end units no_unit 8 e h refl)
 
 -- ---- a loop over the paths: those that q picks go through g
 
@@ -90,83 +73,15 @@ module _ (l : List path.Path) (q : ℕ → Bool) (g : path.Path → path.Path) w
 
 -- ---- a unit's ACA
 
-owner_stays : (path : ℕ) (o : Option ℕ) → has_aca o ≡ true → claimed_unit path (record { aca = o }) ≡ record { aca = o }
+pub owner_stays : (path : ℕ) (o : Option ℕ) → has_aca o ≡ true → claimed_unit path (record { aca = o }) ≡ record { aca = o }
 owner_stays path None h = absurd (never h refl)
 owner_stays path (Some p) h = refl
 
-owner_comes : (path : ℕ) (o : Option ℕ) → has_aca o ≡ false → claimed_unit path (record { aca = o }) ≡ record { aca = Some path }
+pub owner_comes : (path : ℕ) (o : Option ℕ) → has_aca o ≡ false → claimed_unit path (record { aca = o }) ≡ record { aca = Some path }
 owner_comes path None h = refl
 owner_comes path (Some p) h = absurd (never refl h)
 
-module _ (units : List unit.Unit) (unit path : ℕ) {b : Bool} (h : unit < 8) (e : b ≡ has_aca (get_or units unit no_unit).aca) where
-  pub claim_kept : b ≡ true → units ≡ claimed_in units unit path
-  unfolding claimed_in
-  claim_kept f = rw (lt-ltb unit 8 h, owner_stays path (get_or units unit no_unit).aca (answered_true e f)) (sym (set-get_or units unit no_unit))
-
-  pub claim_made : b ≡ false → set units unit (record { aca = Some path }) ≡ claimed_in units unit path
-  unfolding claimed_in
-  claim_made f = rw (lt-ltb unit 8 h, owner_comes path (get_or units unit no_unit).aca (answered_false e f))
-
-module _ (units : List unit.Unit) {place : Option ℕ} where
-  pub clear_all_units : {a : unit.Unit} → place ≡ None → a ≡ no_unit → replicate 8 a ≡ aca_cleared_in units place
-  unfolding aca_cleared_in
-  clear_all_units e h = rw (e, h)
-
-  module _ {u : ℕ} (e : place ≡ Some u) where
-    pub clear_past : 8 ≤ u → units ≡ aca_cleared_in units place
-    unfolding aca_cleared_in
-    clear_past h = rw (e, le-ltb u 8 h)
-
-    pub clear_unit : {a : unit.Unit} → u < 8 → a ≡ no_unit → set units u a ≡ aca_cleared_in units place
-    unfolding aca_cleared_in
-    clear_unit h k = rw (e, lt-ltb u 8 h, k)
-
-pub ruleset aca_ways = (claim_kept, claim_made, clear_all_units, clear_past, clear_unit)
-
--- ---- room, and what is accepted
-
-module _ (t : Table) {i : ℕ} (e : i ≡ lowest_free t.live) where
-  pub no_record : 64 ≤ i → false ≡ has_room t
-  unfolding has_room
-  no_record h = rw (← e, le-ltb i 64 h)
-
-  pub some_record : i < 64 → leb t.next last_arrival ≡ has_room t
-  unfolding has_room
-  some_record h = rw (← e, lt-ltb i 64 h)
-
-  module _ (path tag unit : ℕ) (kind : Kind) (sequel : Sequel) where
-    pub accept_full : 64 ≤ i → t ≡ accepted t path tag unit kind sequel
-    unfolding accepted
-    accept_full h = rw (← no_record h)
-
-    pub accept_late : i < 64 → last_arrival < t.next → t ≡ accepted t path tag unit kind sequel
-    unfolding accepted
-    accept_late h l = rw (← some_record h, lt-leb _ _ l)
-
-    pub accept_put : {m : ℕ} {a : Task} → i < 64 → t.next ≤ last_arrival → m ≡ with_bit t.live i → a ≡ new_task t path tag unit kind sequel
-        → record { live = m; next = t.next + 1; count = t.count; attached = t.attached; paths = t.paths; units = t.units; tasks = set t.tasks i a } ≡ accepted t path tag unit kind sequel
-    unfolding accepted
-    accept_put h l k c = rw (← some_record h, le-leb _ _ l, ← e, k, c)
-
-pub ruleset room_ways = (no_record, some_record, accept_full, accept_late, accept_put)
-
--- ---- a live task that changes
-
-module _ (t : Table) {i : ℕ} (a : Task) where
-  pub alter_past : 64 ≤ i → t ≡ altered_at t i a
-  unfolding altered_at
-  alter_past h = rw (le-ltb i 64 h)
-
-  module _ {b : Bool} (h : i < 64) (e : b ≡ is_live t.live i) where
-    pub alter_dead : not b ≡ true → t ≡ altered_at t i a
-    unfolding altered_at
-    alter_dead k = rw (lt-ltb i 64 h, ← e, not-true b k)
-
-    pub alter_live : {c : Task} → not b ≡ false → c ≡ a → with_tasks t t.live (set t.tasks i c) ≡ altered_at t i a
-    unfolding altered_at
-    alter_live k d = rw (lt-ltb i 64 h, ← e, not-false b k, d)
-
-pub ruleset alter_ways = (alter_past, alter_dead, alter_live)
+pub ruleset owner_ways = (owner_stays, owner_comes)
 
 -- ---- the pass that ends what is picked
 
@@ -220,32 +135,3 @@ module _ (t : Table) (s : Selection) where
         (map_below_all wipe t.tasks no_task 64 n))
 
 pub ruleset end_loop = (end_start, end_wiped, end_kept, end_all, unmapped)
-
--- ---- total reset
-
-pub reset_all : (t : Table) {l : List path.Path} {u : unit.Unit} {a : Task} → l ≡ reset_attention_in t.paths t.count true → u ≡ no_unit → a ≡ no_task
-    → record { live = 0; next = t.next; count = t.count; attached = t.attached; paths = l; units = replicate 8 u; tasks = replicate 64 a } ≡ reset_of t
-unfolding reset_of
-reset_all t e h k = rw (e, h, k)
-
--- ---- the map of the paths that lose a task
-
-module _ (t : Table) (unit sender : ℕ) where
-  pub others_start : 0 ≡ map_of 0 (is_other_on t unit sender)
-  others_start = sym (map_of_start (is_other_on t unit sender))
-
-  module _ {m : ℕ} (p : ℕ) (e : m ≡ map_of p (is_other_on t unit sender)) where
-    pub others_fit : m < 2 ^ p
-    others_fit = rw e (map_of_lt p (is_other_on t unit sender))
-
-    pub others_add : {b : Bool} {v : ℕ} → v ≡ m + 2 ^ p → b ≡ true → b ≡ is_other_on t unit sender p → v ≡ map_of (p + 1) (is_other_on t unit sender)
-    others_add d h f = d ∙ rw e (map_of_add p (is_other_on t unit sender) (answered_true f h))
-
-    pub others_skip : {b : Bool} {v : ℕ} → v ≡ m → b ≡ false → b ≡ is_other_on t unit sender p → v ≡ map_of (p + 1) (is_other_on t unit sender)
-    others_skip d h f = d ∙ e ∙ map_of_skip p (is_other_on t unit sender) (answered_false f h)
-
-    pub others_end : p ≤ 8 → 8 ≤ p → m ≡ others_on t unit sender
-    unfolding others_on
-    others_end h l = e ∙ rw (le_antisymm h l)
-
-pub ruleset others_loop = (others_start, others_fit, others_end)

@@ -1,5 +1,5 @@
 -- Setup: the path list as a loop fills it, a bad list, the table. Assumes nothing.
---     list_loop, list_ways, setup_ways      for `search`, of `listed`, `bad_list` and `Table::new`
+--     list_loop, bad_ways, setup_ways      of `listed`, `bad_list` and `Table::new`
 use Prim.Native.Nat.{ℕ, zero, suc, ◌+◌, ◌-◌, ◌≤◌, ◌<◌}
 use mathlib.Core.Path.{◌≡◌, sym, ap, ◌∙◌}
 use mathlib.Core.Bool.{Bool, true, false, or-true}
@@ -13,6 +13,7 @@ use lib.ListN.{length, get_or, set, take, replicate}
 use lib.Seq.{take-suc, take-length, length-take-le}
 use borrow.Author.Tests.{le-ltb, lt-ltb, eq-eqb, ne_eqb, eqb-true}
 use Rattle.task.proofs.Ways.{never}
+use Rattle.task.proofs.Loops.{some_loop}
 use Rattle.std.specs.List.{list_any}
 use Rattle.task.specs.Index.{some_below}
 use Rattle.task.proofs.Places.{lt_or_le, some_ext}
@@ -72,6 +73,8 @@ module _ (ids : List ℕ) where
   pub few_ids : {b : Bool} → (length ids ≡ 0 → ⊥) → length ids ≤ 8 → b ≡ some_below (length ids) (seen_before ids) → b ≡ bad_list ids
   unfolding bad_list
   few_ids h l e = rw (ne_eqb (length ids) 0 h, le-ltb 8 (length ids) l) e
+
+pub ruleset bad_ways = (some_loop, seen_law)
 
 -- ---- the table that setup gives
 

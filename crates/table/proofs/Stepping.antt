@@ -1,13 +1,12 @@
--- One step of the records, what a finish makes of them, who has a task and where one runs. Assumes nothing.
---     altered_ways, step_ways      for `search`, the ways out of the functions so named, by the variant
+-- What a finish makes of the records, who has a task and where one runs. Assumes nothing.
 --     finish_is_step, finish_of_none, finishes      a finish is a change of the units and a step: of a record, of none, and as `Table::finish` makes it
 --     held_loop      for `search`, the loop that gathers who has a task
---     running_all      the end of the loop that gathers where one runs;        other_as      the paths that have one on a unit
+--     running_all      the end of the loop that gathers where one runs;        other_as, others_all      the paths that have one on a unit
 use Prim.Native.Nat.{ℕ, ◌+◌, ◌%◌, ◌≤◌, ◌<◌}
 use mathlib.Core.Path.{◌≡◌, refl, sym, ap, ap₂, ◌∙◌}
 use mathlib.Core.Bool.{Bool, true, false, cond, not, ◌&&◌, or-false, and-true, and-false}
 use mathlib.Core.List.{List}
-use mathlib.Core.Logic.{inl, inr}
+use mathlib.Core.Logic.{◌⊎◌, inl, inr}
 use native.Mathlib.Nat.{le_antisymm}
 use native.Mathlib.Numerals.{add-one}
 use native.Mathlib.Omega.{arith}
@@ -17,58 +16,21 @@ use Rattle.std.specs.Prelude.{Option, Some, None, is_some}
 use Rattle.std.specs.Option.{unwrap_or, is_some}
 use Rattle.task.specs.Index.{some_below, map_of}
 use Rattle.task.specs.Map.{is_live, with_bit}
-use Rattle.task.specs.Tasks.{has_confirm, runs, restarts, awaits}
+use Rattle.task.specs.Tasks.{has_confirm}
 use Rattle.task.specs.Selections.{picks, on_unit, from_on}
-use Rattle.wire.specs.declared.codes.Kind.{Kind}
-use Rattle.task.specs.declared.Sequel.{Sequel}
 use Rattle.task.specs.declared.Task.{Task}
 use Rattle.task.specs.declared.select.Selection.{Selection}
 use Rattle.task.proofs.Ways.{either_way, answered_true, answered_false}
-use Rattle.task.proofs.Places.{some_ext, some_none, some_at, none_at}
+use borrow.Author.Tests.{eq-eqb, eqb-true}
+use Rattle.task.proofs.Places.{map_of_ext, some_ext, some_none, some_at, none_at}
 use Rattle.task.proofs.Bits.{dead_zero, is_map_of, live_map_of}
 use Rattle.task.proofs.Gathering.{keyed, gathered, gather_more, gather_same, low_byte}
-use Rattle.table.specs.Tables.{task_at, picks_at, any_live, pick_of, is_other_on, with_units, accepted, ended_by, altered_at, runs_at, finished}
-use Rattle.table.specs.Steps.{altered_by, stepped, finish_step, finish_units, holds_one, holders_of, runs_picked, runs_one, running_among}
+use Rattle.table.specs.Tables.{task_at, picks_at, any_live, pick_of, is_other_on, others_on, with_units, runs_at, finished}
+use Rattle.table.specs.Steps.{stepped, finish_step, finish_units, holds_one, holders_of, runs_picked, runs_one, running_among}
 use Rattle.table.specs.declared.Unit as unit
 use Rattle.table.specs.declared.Table.{Table}
-use Rattle.table.specs.declared.steps.Alteration.{Alteration}
-use Rattle.table.specs.declared.steps.Alteration.TheVariants.{Run, Restart, Await}
 use Rattle.table.specs.declared.steps.Step.{Step}
-use Rattle.table.specs.declared.steps.Step.TheVariants.{Stay, Accept, Alter, End}
 use Rattle.table.proofs.Views.{any_found}
-
--- ---- a step, by its variant
-
-module _ (a : Task) {by : Alteration} where
-  pub as_run : by ≡ Run → runs a ≡ altered_by by a
-  as_run e = rw e
-
-  pub as_restart : {offset : ℕ} → by ≡ Restart offset → restarts offset a ≡ altered_by by a
-  as_restart e = rw e
-
-  pub as_await : {transferred : ℕ} → by ≡ Await transferred → awaits transferred a ≡ altered_by by a
-  as_await e = rw e
-
-pub ruleset altered_ways = (as_run, as_restart, as_await)
-
-module _ (t : Table) {s : Step} where
-  pub as_stay : s ≡ Stay → t ≡ stepped t s
-  unfolding stepped
-  as_stay e = rw e
-
-  pub as_accept : {path tag unit : ℕ} {kind : Kind} {sequel : Sequel} {v : Table} → s ≡ Accept path tag unit kind sequel → v ≡ accepted t path tag unit kind sequel → v ≡ stepped t s
-  unfolding stepped
-  as_accept e h = rw e h
-
-  pub as_alter : {i : ℕ} {by : Alteration} {v : Table} → s ≡ Alter i by → v ≡ altered_at t i (altered_by by (task_at t i)) → v ≡ stepped t s
-  unfolding stepped
-  as_alter e h = rw e h
-
-  pub as_end : {q : Selection} {v : Table} → s ≡ End q → v ≡ ended_by t q → v ≡ stepped t s
-  unfolding stepped
-  as_end e h = rw e h
-
-pub ruleset step_ways = (as_stay, as_accept, as_alter, as_end)
 
 -- ---- a finish of the task that stands in record i, and of a record that is none
 
@@ -97,6 +59,18 @@ path_in t i = (task_at t i).path
 
 abbrev pub unit_in : Table → ℕ → ℕ
 unit_in t i = (task_at t i).unit
+
+-- of some places only n is n
+some_alone : (k n : ℕ) (p : ℕ → Bool) → n < k → some_below k (λ i. p i && eqb i n) ≡ p n
+some_alone k n p h =
+    elim (either_way (p n)) [
+      | inl y ↦ some_at k n (λ i. p i && eqb i n) h (rw (y, eq-eqb n n refl)) ∙ sym y
+      | inr y ↦ some_none k (λ i. p i && eqb i n) (λ i l. other i y (either_way (eqb i n))) ∙ sym y
+    ]
+  where
+    other : (i : ℕ) → p n ≡ false → (eqb i n ≡ true) ⊎ (eqb i n ≡ false) → (p i && eqb i n) ≡ false
+    other i y (inl e) = let q : i ≡ n = eqb-true i n e in rw (q, y)
+    other i y (inr e) = rw e (and-false (p i))
 
 some_same : (k : ℕ) (p : ℕ → Bool) → p k ≡ false → some_below k p ≡ some_below (k + 1) p
 unfolding some_below
@@ -180,3 +154,11 @@ module _ (t : Table) (unit sender : ℕ) where
   other_as p l n e h d g f =
       let k : p < 64 = omega arith in
       f ∙ rw (g, d, h, e, holders_map t (on_unit unit) n, live_map_of 64 p (holds_one t (on_unit unit)) k, some_ext 64 _ _ (λ i _. on_from p unit (task_at t i) (is_live t.live i)))
+
+  -- and the map of them, gathered place by place
+  pub others_all : {m k : ℕ} → k ≤ 8 → 8 ≤ k → m ≡ gathered (is_other_on t unit sender) (λ i. i) k → m % 256 ≡ others_on t unit sender
+  unfolding gathered others_on
+  others_all h l e =
+      rw (e, le_antisymm h l)
+      (low_byte (λ n. some_below 8 (keyed (is_other_on t unit sender) (λ i. i) n))
+      ∙ map_of_ext 8 _ _ (λ n r. some_alone 8 n (is_other_on t unit sender) r))

@@ -1,6 +1,6 @@
 // Tasks: the scan that the table lends its records to, who has a task and where one runs; what is accepted, started, restarted,
 // finished, ended and reset. These are a step of steps.rt each, finish with a change of the units; reset is none.
-ghost use Rattle.std.specs.Prelude.{◌≡◌, ◌&&◌, not, ltb, eqb, ◌<◌, ◌+◌, ◌^◌};
+ghost use Rattle.std.specs.Prelude.{◌≡◌, ◌&&◌, not, ltb, eqb};
 ghost use Rattle.table.specs.Tables.{task_at, pick_of, has_room, accepted, ended_by, started, restarted, finished, reset_of, others_on};
 ghost use Rattle.task.specs.Tasks.{is_running};
 ghost use Rattle.task.specs.Selections.{picks_live};
@@ -14,33 +14,35 @@ use task::{Kind, RECORDS, Sequel, Task};
 
 impl Table {
     // Of the live tasks that the selection picks, the one that goes next. The records are lent to the scan.
+    #[tactic(auto, unfolding(crate::specs::Tables::pick_of))]
     pub fn pick(self, s: Selection) -> Option<Pick>
         ensures { result ≡ pick_of self s }
     {
         task::scan::next_of(&self.tasks, self.live, s)
     }
 
-    // The record at a place, and a wiped one past the end.
+    // The record at a place, and a wiped one past the end: not by `at_or`, which would have the table copied, as `path_at`
+    // says.
     pub fn task_at(self, i: usize) -> Task
         ensures { result ≡ task_at self i }
     {
-        if i >= RECORDS {
-            return task::no_task();
+        if i < RECORDS {
+            self.tasks[i]
+        } else {
+            task::no_task()
         }
-        self.tasks[i]
     }
 
     // Whether a record is free and an arrival number is left.
+    #[tactic(auto, unfolding(crate::specs::Tables::has_room))]
     pub fn has_room(self) -> bool
         ensures { result ≡ has_room self }
     {
-        if task::map::lowest_free(self.live) >= RECORDS {
-            return false;
-        }
-        self.next <= LAST_ARRIVAL
+        task::map::lowest_free(self.live) < RECORDS && self.next <= LAST_ARRIVAL
     }
 
     // A new waiting task in the lowest free record, under the next arrival number; with no room nothing changes.
+    #[tactic(auto, unfolding(crate::specs::Steps::stepped))]
     pub fn accept(self, path: u8, tag: u16, unit: u8, kind: Kind, sequel: Sequel) -> Table
         ensures { result ≡ accepted self path tag unit kind sequel }
     {
@@ -54,6 +56,7 @@ impl Table {
     }
 
     // Every live task that the selection picks ends: its record is wiped and its place free.
+    #[tactic(auto, unfolding(crate::specs::Steps::stepped))]
     pub fn end(self, s: Selection) -> Table
         ensures { result ≡ ended_by self s }
     {
@@ -61,6 +64,7 @@ impl Table {
     }
 
     // The live task in the record runs.
+    #[tactic(auto, unfolding(crate::specs::Steps::stepped))]
     pub fn start(self, i: usize) -> Table
         ensures { result ≡ started self i }
     {
@@ -71,6 +75,7 @@ impl Table {
     }
 
     // The live task in the record waits again, to start at an offset.
+    #[tactic(auto, unfolding(crate::specs::Steps::stepped))]
     pub fn restart(self, i: usize, offset: u32) -> Table
         ensures { result ≡ restarted self i offset }
     {
@@ -83,35 +88,30 @@ impl Table {
     // The device has finished the task that runs in the record: with CONFIRM it waits to be confirmed, else it ends.
     // Where it failed, its unit gets ACA owned by its path, unless it has one. A dead record, or one whose task does
     // not run, changes nothing.
+    #[tactic(auto, using(crate::proofs::Stepping::finishes))]
     pub fn finish(mut self, i: usize, failed: bool, transferred: u64) -> Table
         ensures { result ≡ finished self i failed transferred }
     {
         let a = self.task_at(i);
-        let units = self.units;
-        let claimed = crate::steps::finish_units(units, self.live, i, a, failed);
-        self.units = claimed;
+        self.units = crate::steps::finish_units(self.units, self.live, i, a, failed);
         self.step(crate::steps::finish_step(self.live, i, a, transferred))
     }
 
     // Total reset: no task, no mark, no ACA, reset attention on every listed path; arrival numbers go on.
+    #[tactic(auto, unfolding(crate::specs::Tables::reset_of))]
     pub fn reset(mut self) -> Table
         ensures { result ≡ reset_of self }
     {
-        let paths = self.paths;
-        let reset = crate::paths::give_reset_attention(paths, self.count, true);
-        let unit = crate::units::no_unit();
-        let units = [unit; UNITS];
-        let task = task::no_task();
-        let tasks = [task; RECORDS];
         self.live = 0;
-        self.paths = reset;
-        self.units = units;
-        self.tasks = tasks;
+        self.paths = crate::paths::give_reset_attention(self.paths, self.count, true);
+        self.units = [crate::units::no_unit(); UNITS];
+        self.tasks = [task::no_task(); RECORDS];
         self
     }
 
     // Who has a live task that the selection picks: the map of their places in the path list, and none where nobody
     // has one. One pass over the records.
+    #[tactic(auto, using(crate::proofs::Stepping::held_loop))]
     pub fn holders(self, s: Selection) -> Option<u64>
         ensures { result ≡ holders_of self s }
     {
@@ -125,6 +125,7 @@ impl Table {
     }
 
     // The map of the units on which a live task that the selection picks runs: one pass over the records.
+    #[tactic(auto, using(crate::proofs::Stepping::running_all, task::proofs::Gathering::gather_start))]
     pub fn running_among(self, s: Selection) -> u8
         ensures { result ≡ running_among self s }
     {
@@ -138,18 +139,19 @@ impl Table {
     }
 
     // The map of the listed paths, other than the sender's, that have a live task on the unit.
+    #[tactic(auto, using(crate::proofs::Stepping::others_all, task::proofs::Gathering::gather_start))]
     pub fn others_on(self, unit: u8, sender: u8) -> u8
         ensures { result ≡ others_on self unit sender }
     {
         let held = self.holders(Selection::on_unit(unit)).unwrap_or(0);
-        let mut map: u8 = 0;
+        let mut others: u64 = 0;
         for p in 0..MOST_PATHS {
             let has = task::map::is_live(held, p as usize);
             if is_other_on(self.count, sender, p, has) {
-                map = with_path(map, p);
+                others = task::map::with_bit(others, p as usize);
             }
         }
-        map
+        (others % 256) as u8
     }
 }
 
@@ -157,30 +159,12 @@ impl Table {
 fn runs_picked(live: u64, s: Selection, i: usize, a: Task) -> bool
     ensures { result ≡ (is_running a.phase && picks_live live s i a) }
 {
-    let phase = a.phase;
-    if !task::is_running(phase) {
-        return false;
-    }
-    task::select::picked_live(live, s, i, a)
+    task::is_running(a.phase) && task::select::picked_live(live, s, i, a)
 }
 
 // Whether the path at p loses a task: it is listed, not the sender's, and has one.
 fn is_other_on(count: u8, sender: u8, p: u8, has: bool) -> bool
     ensures { result ≡ (ltb p count && (not (eqb p sender) && has)) }
 {
-    if p >= count {
-        return false;
-    }
-    if p == sender {
-        return false;
-    }
-    has
-}
-
-// The map of a byte with bit p, which it did not have.
-fn with_path(map: u8, p: u8) -> u8
-    requires { (p < 8) × (map < 2 ^ p) }
-    ensures { result ≡ map + 2 ^ p }
-{
-    map + (1 << p)
+    p < count && p != sender && has
 }

@@ -8,10 +8,12 @@ pub mod setup;
 pub mod steps;
 pub mod units;
 
+ghost use Rattle.std.specs.Prelude.{◌≡◌, get_or};
+
 use task::{RECORDS, Task};
 
 // A path's pending unit attention. The first variant is the zero of a wiped record.
-#[derive(Clone, Copy)]
+#[derive(Clone, Copy, PartialEq, Eq)]
 pub enum Attention {
     Nothing,
     Reset,
@@ -19,7 +21,7 @@ pub enum Attention {
 }
 
 // A return path: its id, its buffer-full mark, its pending attention.
-#[derive(Clone, Copy)]
+#[derive(Clone, Copy, PartialEq, Eq)]
 pub struct Path {
     pub id: u32,
     pub full: bool,
@@ -54,3 +56,10 @@ pub const UNITS: usize = 8;
 
 // The last arrival number that a command can take: 2^64 - 2.
 pub const LAST_ARRIVAL: u64 = 0xffff_ffff_ffff_fffe;
+
+// The element at a place, and `none` past the end.
+fn at_or<T: Copy>(xs: &[T], i: usize, none: T) -> T
+    ensures { result ≡ get_or xs.now i none }
+{
+    if i < xs.len() { xs[i] } else { none }
+}

@@ -21,55 +21,34 @@ pub(crate) fn no_path() -> Path
 pub fn bit_of(map: u8, i: usize) -> bool
     ensures { result ≡ Tables.bit_of map i }
 {
-    if i >= PATHS {
-        return false;
-    }
-    (map >> i) % 2 == 1
-}
-
-pub fn is_nothing(a: Attention) -> bool
-    ensures { result ≡ is_nothing a }
-{
-    match a {
-        Attention::Nothing => true,
-        Attention::Reset => false,
-        Attention::Cleared => false,
-    }
+    task::map::is_live(map as u64, i)
 }
 
 // Which attention is pending.
+pub fn is_nothing(a: Attention) -> bool
+    ensures { result ≡ is_nothing a }
+{
+    a == Attention::Nothing
+}
+
 pub fn is_reset(a: Attention) -> bool
     ensures { result ≡ is_reset a }
 {
-    match a {
-        Attention::Nothing => false,
-        Attention::Reset => true,
-        Attention::Cleared => false,
-    }
+    a == Attention::Reset
 }
 
 pub fn is_cleared(a: Attention) -> bool
     ensures { result ≡ is_cleared a }
 {
-    match a {
-        Attention::Nothing => false,
-        Attention::Reset => false,
-        Attention::Cleared => true,
-    }
+    a == Attention::Cleared
 }
 
 // The path with reset attention, and with `unmark` its mark gone.
 fn with_reset_attention(a: Path, unmark: bool) -> Path
     ensures { result ≡ with_reset_attention unmark a }
 {
-    if unmark {
-        return Path {
-            full: false,
-            attention: Attention::Reset,
-            ..a
-        };
-    }
     Path {
+        full: a.full && !unmark,
         attention: Attention::Reset,
         ..a
     }
@@ -79,8 +58,7 @@ fn with_reset_attention(a: Path, unmark: bool) -> Path
 fn with_cleared_attention(a: Path) -> Path
     ensures { result ≡ with_cleared_attention a }
 {
-    let pending = a.attention;
-    if is_reset(pending) {
+    if is_reset(a.attention) {
         return a;
     }
     Path {
@@ -90,6 +68,7 @@ fn with_cleared_attention(a: Path) -> Path
 }
 
 // The place of an id among the first `count` of the paths, or 8.
+#[tactic(auto, using(task::proofs::Loops::first_loop))]
 pub fn place_of(paths: [Path; PATHS], count: u8, id: u32) -> usize
     ensures { result ≡ place_of paths count id }
 {
@@ -105,42 +84,33 @@ pub fn place_of(paths: [Path; PATHS], count: u8, id: u32) -> usize
 fn has_id(count: usize, id: u32, p: usize, a: Path) -> bool
     ensures { result ≡ has_id count id p a }
 {
-    if p < count {
-        return a.id == id;
-    }
-    false
+    p < count && a.id == id
 }
 
 // The path's mark set or cleared.
+#[tactic(auto, unfolding(crate::specs::Tables::marked_in))]
 pub fn mark(mut paths: [Path; PATHS], p: usize, full: bool) -> [Path; PATHS]
     ensures { result ≡ marked_in paths p full }
 {
-    if p >= PATHS {
-        return paths;
+    if p < PATHS {
+        paths[p].full = full;
     }
-    let a = paths[p];
-    let b = Path { full, ..a };
-    paths[p] = b;
     paths
 }
 
 // The path's pending attention becomes none.
+#[tactic(auto, unfolding(crate::specs::Tables::attention_gone_in))]
 pub fn drop_attention(mut paths: [Path; PATHS], p: usize) -> [Path; PATHS]
     ensures { result ≡ attention_gone_in paths p }
 {
-    if p >= PATHS {
-        return paths;
+    if p < PATHS {
+        paths[p].attention = Attention::Nothing;
     }
-    let a = paths[p];
-    let b = Path {
-        attention: Attention::Nothing,
-        ..a
-    };
-    paths[p] = b;
     paths
 }
 
 // Reset attention on each of the first `count` paths, and with `unmark` its mark gone.
+#[tactic(auto, using(crate::proofs::Changing::paths_start))]
 pub fn give_reset_attention(mut paths: [Path; PATHS], count: u8, unmark: bool) -> [Path; PATHS]
     ensures { result ≡ reset_attention_in paths count unmark }
 {
@@ -153,6 +123,7 @@ pub fn give_reset_attention(mut paths: [Path; PATHS], count: u8, unmark: bool) -
 }
 
 // Cleared attention on each path of the map, unless reset is pending.
+#[tactic(auto, using(crate::proofs::Changing::paths_start))]
 pub fn give_cleared_attention(mut paths: [Path; PATHS], others: u8) -> [Path; PATHS]
     ensures { result ≡ cleared_attention_in paths others }
 {
@@ -166,21 +137,19 @@ pub fn give_cleared_attention(mut paths: [Path; PATHS], others: u8) -> [Path; PA
 
 impl Table {
     // The place of an id among the listed paths, or 8.
+    #[tactic(auto, using(crate::proofs::Changing::place_fits))]
     pub fn path_of(self, id: u32) -> u8
         ensures { result ≡ path_of self id }
     {
-        let paths = self.paths;
-        place_of(paths, self.count, id) as u8
+        place_of(self.paths, self.count, id) as u8
     }
 
-    // The path at a place, and a wiped one past the end.
+    // The path at a place, and a wiped one past the end. The paths alone are copied: where they are lent out of the
+    // table, the compiler copies all of it.
     pub fn path_at(self, p: usize) -> Path
         ensures { result ≡ path_at self p }
     {
-        if p >= PATHS {
-            return no_path();
-        }
         let paths = self.paths;
-        paths[p]
+        crate::at_or(&paths, p, no_path())
     }
 }

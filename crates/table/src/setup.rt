@@ -7,13 +7,11 @@ use crate::{Attention, PATHS, Path, Table, UNITS};
 use task::RECORDS;
 
 // Whether the list has no path, over 8, or an id twice.
+#[tactic(auto, using(crate::proofs::Setting::bad_ways), unfolding(crate::specs::Setup::bad_list))]
 pub fn bad_list(ids: &[u32]) -> bool
     ensures { result ≡ bad_list ids.now }
 {
-    if ids.is_empty() {
-        return true;
-    }
-    if ids.len() > PATHS {
+    if ids.is_empty() || ids.len() > PATHS {
         return true;
     }
     for (i, id) in ids.iter().enumerate() {
@@ -25,12 +23,12 @@ pub fn bad_list(ids: &[u32]) -> bool
 }
 
 // The path list of setup: each id with no mark and reset attention, the rest wiped.
+#[tactic(auto, using(crate::proofs::Setting::list_loop))]
 fn listed(ids: &[u32]) -> [Path; PATHS]
     requires { length ids.now ≤ 8 }
     ensures { result ≡ paths_of ids.now }
 {
-    let none = crate::paths::no_path();
-    let mut paths = [none; PATHS];
+    let mut paths = [crate::paths::no_path(); PATHS];
     for (i, id) in ids.iter().enumerate() {
         paths[i] = Path {
             id: *id,
@@ -43,27 +41,23 @@ fn listed(ids: &[u32]) -> [Path; PATHS]
 
 impl Table {
     // No path, no unit, no task.
+    #[tactic(auto, unfolding(crate::specs::Tables::zero_table))]
     pub fn zero() -> Table
         ensures { result ≡ zero_table }
     {
-        let path = crate::paths::no_path();
-        let unit = crate::units::no_unit();
-        let task = task::no_task();
-        let paths = [path; PATHS];
-        let units = [unit; UNITS];
-        let tasks = [task; RECORDS];
         Table {
             live: 0,
             next: 0,
             count: 0,
             attached: 0,
-            paths,
-            units,
-            tasks,
+            paths: [crate::paths::no_path(); PATHS],
+            units: [crate::units::no_unit(); UNITS],
+            tasks: [task::no_task(); RECORDS],
         }
     }
 
     // The table that setup gives, and the all-zero one for a bad list of paths.
+    #[tactic(auto, using(crate::proofs::Setting::setup_ways))]
     pub fn new(ids: &[u32], attached: u8, first: u64) -> Table
         ensures { result ≡ setup_table ids.now attached first }
     {
@@ -71,11 +65,10 @@ impl Table {
         if bad_list(ids) {
             return t;
         }
-        let paths = listed(ids);
         t.next = first;
         t.count = ids.len() as u8;
         t.attached = attached;
-        t.paths = paths;
+        t.paths = listed(ids);
         t
     }
 }

@@ -80,6 +80,7 @@ fn altered(a: Task, by: Alteration) -> Task
 impl Table {
     // The step, where the records stand. All steps are one function: so the compiler keeps it apart from the calls, and
     // a call has one table of its own on the stack, and this one below it.
+    #[tactic(auto, using(crate::proofs::Changing::end_loop), unfolding(crate::specs::Steps::stepped, crate::specs::Tables::accepted, crate::specs::Tables::has_room, crate::specs::Tables::altered_at))]
     pub fn step(mut self, s: Step) -> Table
         ensures { result ≡ stepped self s }
     {
@@ -137,18 +138,12 @@ impl Table {
 fn runs_in(live: u64, i: usize, a: Task) -> bool
     ensures { result ≡ runs_in live i a }
 {
-    if i >= RECORDS {
-        return false;
-    }
-    if !task::map::is_live(live, i) {
-        return false;
-    }
-    let phase = a.phase;
-    task::is_running(phase)
+    i < RECORDS && task::map::is_live(live, i) && task::is_running(a.phase)
 }
 
 // What a finish makes of the task a in record i, after so many bytes: with CONFIRM it waits to be confirmed, else it
 // ends. Where it does not run there, nothing changes.
+#[tactic(auto, unfolding(crate::specs::Steps::finish_step))]
 pub fn finish_step(live: u64, i: usize, a: Task, transferred: u64) -> Step
     ensures { result ≡ finish_step live i a transferred }
 {
@@ -166,6 +161,7 @@ pub fn finish_step(live: u64, i: usize, a: Task, transferred: u64) -> Step
 }
 
 // And of the units: where it failed, its unit gets ACA owned by its path, unless it has one.
+#[tactic(auto, unfolding(crate::specs::Steps::finish_units))]
 pub fn finish_units(
     units: [Unit; UNITS],
     live: u64,

@@ -30,31 +30,23 @@ pub fn owned_by(aca: Option<u8>, path: u8) -> bool
 pub fn aca_at(units: [Unit; UNITS], unit: u8) -> Option<u8>
     ensures { result ≡ aca_at units unit }
 {
-    let u = unit as usize;
-    if u >= UNITS {
-        return None;
-    }
-    let a = units[u];
-    a.aca
+    crate::at_or(&units, unit as usize, no_unit()).aca
 }
 
 // The unit gets ACA owned by the path, unless it has one: where a finish failed, and where a rule holds the queue.
+#[tactic(auto, using(crate::proofs::Changing::owner_ways), unfolding(crate::specs::Tables::claimed_in))]
 pub fn claim(mut units: [Unit; UNITS], unit: u8, path: u8) -> [Unit; UNITS]
     ensures { result ≡ claimed_in units unit path }
 {
     let u = unit as usize;
-    if u >= UNITS {
-        return units;
+    if u < UNITS && !has_aca(units[u].aca) {
+        units[u].aca = Some(path);
     }
-    let a = units[u];
-    if has_aca(a.aca) {
-        return units;
-    }
-    units[u] = Unit { aca: Some(path) };
     units
 }
 
 // The unit's ACA goes, Some(unit), or that of every unit, None.
+#[tactic(auto, unfolding(crate::specs::Tables::aca_cleared_in))]
 pub fn clear_aca(mut units: [Unit; UNITS], place: Option<u8>) -> [Unit; UNITS]
     ensures { result ≡ aca_cleared_in units place }
 {
@@ -73,16 +65,12 @@ pub fn clear_aca(mut units: [Unit; UNITS], place: Option<u8>) -> [Unit; UNITS]
 }
 
 impl Table {
-    // A unit, and a wiped one past the end.
+    // A unit, and a wiped one past the end. The units alone are copied, as the paths are in `path_at`.
     pub fn unit_at(self, unit: u8) -> Unit
         ensures { result ≡ unit_at self unit }
     {
-        let u = unit as usize;
-        if u >= UNITS {
-            return no_unit();
-        }
         let units = self.units;
-        units[u]
+        crate::at_or(&units, unit as usize, no_unit())
     }
 
     // Whether the unit is attached.

@@ -36,7 +36,7 @@ pub enum Sequel {
 // list. The position is how many bytes into the command's data: while the task waits or runs, the offset that it
 // starts at (that of its last restart, or 0); while it waits to be confirmed, the bytes that the finish said were
 // transferred.
-#[derive(Clone, Copy)]
+#[derive(Clone, Copy, PartialEq, Eq)]
 pub struct Task {
     pub arrival: u64,
     pub position: u64,

@@ -4,10 +4,10 @@
 use mathlib.Core.Path.{◌≡◌, refl, ◌∙◌}
 use mathlib.Core.Bool.{false}
 use native.Mathlib.Omega.{arith}
-use Rattle.task.specs.Index.{some_below}
 use Rattle.task.proofs.Loops.{some_more, some_hit, some_end}
-use Rattle.sound.specs.Sound.{clashes}
+use Rattle.task.specs.Index.{some_below}
 use Rattle.sound.specs.Seen.{seen_below}
+use Rattle.sound.specs.Sound.{clashes}
 use Rattle.sound.proofs.Checking.{clash_at, clash_below}
 use Rattle.sound.proofs.SeenCases.{clear_clashes, dead_clashes, live_bits, dead_bits}
 use Rattle.sound.proofs.clashes.Goals.{then-is_live, then-may_clash+else-loop-j-test, else-may_clash, else-is_live}
@@ -16,15 +16,6 @@ use Rattle.sound.proofs.clashes.Goals as goal
 pub walk-init : goal.walk-init
 unfolding some_below seen_below
 walk-init c = (refl, refl, refl)
-
-pub loop-j-init : goal.loop-j-init
-unfolding some_below
-loop-j-init c = (c.walk.invariant.0, refl)
-
-pub loop-j-preserved : goal.loop-j-preserved
-loop-j-preserved c =
-    let l = c.loop-j in
-    (l.invariant.0, some_more _ _ l.invariant.1 c.clash.ensures c.if-clash.false)
 
 pub walk-preserved : goal.walk-preserved
 walk-preserved c =

@@ -3,16 +3,6 @@ use Rattle.task.proofs.Loops.{all_loop}
 use Rattle.sound.specs.Sound.{units_ok}
 use Rattle.sound.proofs.units_ok.Goals as goal
 
-pub loop-u-init : goal.loop-u-init
-loop-u-init c = search all_loop
-
 pub returns-then-not-unit_ok : goal.returns-then-not-unit_ok
 unfolding units_ok
 returns-then-not-unit_ok c = search all_loop
-
-pub loop-u-preserved : goal.loop-u-preserved
-loop-u-preserved c = search all_loop
-
-pub returns : goal.returns
-unfolding units_ok
-returns c = search all_loop

@@ -1,13 +1,9 @@
 -- `Table::running_among` meets its contract. The loop's invariant: the map is that of the records below i. Assumes
 -- nothing.
 use mathlib.Core.Path.{◌∙◌}
-use Rattle.task.proofs.Gathering.{gather_start, gather_more, gather_same}
-use Rattle.table.proofs.Stepping.{running_all}
+use Rattle.task.proofs.Gathering.{gather_more, gather_same}
 use Rattle.table.proofs.Table.running_among.Goals.{then-runs_picked, else-runs_picked}
 use Rattle.table.proofs.Table.running_among.Goals as goal
-
-pub loop-i-init : goal.loop-i-init
-loop-i-init c = gather_start _ _
 
 pub loop-i-preserved : goal.loop-i-preserved
 loop-i-preserved c =
@@ -16,6 +12,3 @@ loop-i-preserved c =
       | then-runs_picked w ↦ gather_more _ _ _ c.loop-i.invariant p w.if-runs_picked.true (w.units-is ∙ w.with_bit-units.ensures)
       | else-runs_picked w ↦ gather_same _ _ _ c.loop-i.invariant p w.if-runs_picked.false w.units-is
     ]
-
-pub returns : goal.returns
-returns c = search running_all

@@ -4,34 +4,10 @@ use Prim.Native.Nat.{◌<◌}
 use native.Mathlib.Omega.{arith}
 use borrow.Author.Rules.{rules}
 use Rattle.table.proofs.Lists.{unmapped}
-use Rattle.table.proofs.Changing.{room_ways, alter_ways, end_wiped, end_kept, end_loop}
-use Rattle.table.proofs.Stepping.{step_ways}
+use Rattle.table.proofs.Changing.{end_wiped, end_kept, end_loop}
 use Rattle.table.proofs.Table.step.Goals.{then-picked_live, else-picked_live}
+use Rattle.table.specs.Steps.{stepped}
 use Rattle.table.proofs.Table.step.Goals as goal
-
-pub returns-in-Stay : goal.returns-in-Stay
-returns-in-Stay c = search step_ways
-
-pub returns-then-i-ge-RECORDS : goal.returns-then-i-ge-RECORDS
-returns-then-i-ge-RECORDS c = search (step_ways, room_ways)
-
-pub returns-then-next-gt-LAST_ARRIVAL : goal.returns-then-next-gt-LAST_ARRIVAL
-returns-then-next-gt-LAST_ARRIVAL c = search (step_ways, room_ways)
-
-pub returns-in-Accept : goal.returns-in-Accept
-returns-in-Accept c = search (step_ways, room_ways)
-
-pub returns-then-place-ge-RECORDS : goal.returns-then-place-ge-RECORDS
-returns-then-place-ge-RECORDS c = search (step_ways, alter_ways)
-
-pub returns-then-not-is_live : goal.returns-then-not-is_live
-returns-then-not-is_live c = search (step_ways, alter_ways)
-
-pub returns-in-Alter : goal.returns-in-Alter
-returns-in-Alter c = search (step_ways, alter_ways)
-
-pub loop-i-init : goal.loop-i-init
-loop-i-init c = search end_loop
 
 pub loop-i-preserved : goal.loop-i-preserved
 loop-i-preserved c =
@@ -44,4 +20,5 @@ loop-i-preserved c =
     ]
 
 pub returns-in-End : goal.returns-in-End
-returns-in-End c = search (rules, step_ways, end_loop)
+unfolding stepped
+returns-in-End c = rw c.in-End.is (search (rules, end_loop))

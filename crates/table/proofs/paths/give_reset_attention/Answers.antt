@@ -1,16 +1,11 @@
 -- `paths::give_reset_attention` meets its contract. The loop's invariant: the listed paths below p have reset attention, the
 -- others as they were. Assumes nothing.
 use native.Mathlib.Omega.{arith}
-use borrow.Author.Rules.{rules}
 use borrow.Author.Tests.{lt-ltb, le-ltb}
-use Rattle.table.proofs.Lists.{unmapped}
-use Rattle.table.proofs.Changing.{paths_start, path_through, path_kept, paths_end}
+use Rattle.table.proofs.Changing.{path_through, path_kept, paths_end}
 use Rattle.table.specs.Tables.{reset_attention_in}
 use Rattle.table.proofs.paths.give_reset_attention.Goals.{then-p-count, else-p-count}
 use Rattle.table.proofs.paths.give_reset_attention.Goals as goal
-
-pub loop-p-init : goal.loop-p-init
-loop-p-init c = (paths_start _ _ _, search (rules, unmapped))
 
 pub loop-p-preserved : goal.loop-p-preserved
 loop-p-preserved c =

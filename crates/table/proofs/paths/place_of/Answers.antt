@@ -3,15 +3,9 @@ use Rattle.task.proofs.Loops.{first_loop}
 use Rattle.table.specs.Tables.{place_of}
 use Rattle.table.proofs.paths.place_of.Goals as goal
 
-pub loop-p-init : goal.loop-p-init
-loop-p-init c = search first_loop
-
 pub returns-then-has_id : goal.returns-then-has_id
 unfolding place_of
 returns-then-has_id c = search first_loop
-
-pub loop-p-preserved : goal.loop-p-preserved
-loop-p-preserved c = search first_loop
 
 pub returns : goal.returns
 unfolding place_of
