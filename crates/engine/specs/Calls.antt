@@ -204,7 +204,7 @@ pub record Answers (defined : Outcome) (buf : List ℕ) (o : Outcome) (left : Li
 
 -- ---- the command block handed over: the part of the message with an accepted command, an empty part with any other answer
 
-abbrev pub is_accepted : Result Answer Refusal → Bool
+abbrev pub is_accepted : {E : Type 0} → Result Answer E → Bool
 is_accepted (Ok answer.Ready) = false
 is_accepted (Ok (answer.Accepted n)) = true
 is_accepted (Ok (answer.Reply r)) = false
@@ -214,7 +214,7 @@ is_accepted (Ok (answer.Restarted n)) = false
 is_accepted (Ok answer.Reset) = false
 is_accepted (Err n) = false
 
-unfoldable pub handed_over : List ℕ → Result Answer Refusal → List ℕ
+unfoldable pub handed_over : {E : Type 0} → List ℕ → Result Answer E → List ℕ
 handed_over m a = cond (is_accepted a) (block_of m) []
 
 -- ---- the contracts of the calls: o is what a call hands back, left the reply buffer as it is left
@@ -235,5 +235,5 @@ abbrev pub TotalResetContract : Table → Outcome → Type 0
 TotalResetContract t o = o ≡ total_reset_of t
 
 -- the part that is handed over with an answer
-abbrev pub CommandBlockContract : List ℕ → Result Answer Refusal → List ℕ → Type 0
+abbrev pub CommandBlockContract : {E : Type 0} → List ℕ → Result Answer E → List ℕ → Type 0
 CommandBlockContract m a part = part ≡ handed_over m a

@@ -136,9 +136,9 @@ pub record ConfirmsItsOwn : Type 0 where
 
 -- whatever comes after a whole message, the outcome is the same; and whatever comes after a whole command block, the
 -- same block is handed over
-pub record PastIsNotRead : Type 0 where
+pub record PastIsNotRead : Type 1 where
   pub outcome : (t : Table) (m rest : List ℕ) (n : ℕ) → Whole m → message_of t (m ++ rest) n ≡ message_of t m n
-  pub command_block : (m rest : List ℕ) (a : Result Answer Refusal) → cut_short m ≡ false → handed_over (m ++ rest) a ≡ handed_over m a
+  pub command_block : {E : Type 0} (m rest : List ℕ) (a : Result Answer E) → cut_short m ≡ false → handed_over (m ++ rest) a ≡ handed_over m a
 
 -- ---- every call keeps a table sound, and setup's is
 

@@ -17,10 +17,10 @@ Only {A} Contract = (x y : A) → Contract x → Contract y → x ≡ y
 abbrev pub OnlyWithReply : (Outcome → List ℕ → Type 0) → Type 0
 OnlyWithReply Contract = (o p : Outcome) (k l : List ℕ) → Contract o k → Contract p l → (o ≡ p) × (k ≡ l)
 
-pub record AnswersAreOne : Type 0 where
+pub record AnswersAreOne : Type 1 where
   pub setup_is_one : (ids : List ℕ) (attached first : ℕ) → Only (SetupContract ids attached first)
   pub message_is_one : (t : Table) (m buf : List ℕ) → OnlyWithReply (MessageContract t m buf)
   pub start_is_one : (t : Table) (unit : ℕ) → Only (StartContract t unit)
   pub finish_is_one : (t : Table) (arrival : ℕ) (status : StatusByte) (s : Sense) (transferred : ℕ) (buf : List ℕ) → OnlyWithReply (FinishContract t arrival status s transferred buf)
   pub total_reset_is_one : (t : Table) → Only (TotalResetContract t)
-  pub command_block_is_one : (m : List ℕ) (a : Result Answer Refusal) → Only (CommandBlockContract m a)
+  pub command_block_is_one : {E : Type 0} (m : List ℕ) (a : Result Answer E) → Only (CommandBlockContract m a)

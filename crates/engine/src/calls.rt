@@ -345,9 +345,9 @@ pub fn setup(ids: &[u32], attached: u8, first: u64) -> Outcome
 }
 
 // The command block that goes to the device with an accepted command: a part of the message, no copy. Any other
-// answer hands over an empty part.
+// answer hands over an empty part, whatever the refusal.
 #[tactic(auto, unfolding(crate::specs::Calls::handed_over))]
-pub fn command_block(m: &[u8], a: Result<Answer, Refusal>) -> &[u8]
+pub fn command_block<E: Copy>(m: &[u8], a: Result<Answer, E>) -> &[u8]
     ensures { CommandBlockContract m.now a result.now }
 {
     match a {

@@ -32,7 +32,8 @@ pub fn ends(p: u8, o: Order) -> Selection
     }
 }
 
-// The tag of the task that an order names, and its unit; 0 where it names none.
+// The tag of the task that an order names, and its unit; 0 where it names none: what is then looked up for 0, no order
+// looks at.
 pub fn tag_of(o: Order) -> u16
     ensures { result ≡ tag_of o }
 {

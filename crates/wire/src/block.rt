@@ -5,7 +5,7 @@ ghost use Rattle.wire.specs.Block.{block_length, cut_short, no_block, linked, bl
 use crate::fields::byte_at;
 use crate::tables::BLOCK_LENGTHS;
 
-// The block's length, or 0 where its group has none.
+// The block's length, and 0 where its group has none: such a block adds nothing to the length that rule 2 asks for.
 fn length(m: &[u8]) -> usize
     ensures { result ≡ block_length m.now }
 {

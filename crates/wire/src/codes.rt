@@ -79,7 +79,8 @@ impl Refusal {
     }
 }
 
-// The RETURN CODE of a SCSI RESPONSE (003, table 21); of a SCSI STATUS (table 9) the first and the last alone.
+// The RETURN CODE of a SCSI RESPONSE (003, table 21); of a SCSI STATUS (table 9) the first and the last alone. A byte with
+// associated constants, as page 01 asks, and StatusByte too: the reply writer takes any, and refuses others by 14.
 #[derive(Clone, Copy, PartialEq, Eq)]
 pub struct ReturnCode(pub u8);
 

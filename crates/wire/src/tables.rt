@@ -1,5 +1,5 @@
 // The tables that messages are read by: a row for each kind of message in the order of 003's table 4, and the lengths
-// of command blocks.
+// of command blocks. They stand side by side as constant arrays, as page 01 asks.
 use crate::codes::{
     ABORT_TASK, ABORT_TASK_SET, CLEAR_ACA, CLEAR_TASK_SET, CONFIRM_STATUS, LOGICAL_UNIT_RESET,
     SCSI_COMMAND, TARGET_RESET,
