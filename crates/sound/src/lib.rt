@@ -75,7 +75,7 @@ fn units_ok(t: Table) -> bool
 }
 
 // The pairwise walk over the records, left at the first clash. A live record is held against those below it only where
-// the map of what was seen says that one of them may share something with it.
+// the map of what was seen says that one of them may share something with it. It is left by its label, as page 01 asks.
 #[tactic(auto, using(task::proofs::Loops::some_loop))]
 fn clashes(t: Table) -> bool
     ensures { result ≡ Sound.clashes t }

@@ -21,8 +21,7 @@ impl Table {
         task::scan::next_of(&self.tasks, self.live, s)
     }
 
-    // The record at a place, and a wiped one past the end: not by `at_or`, which would have the table copied, as `path_at`
-    // says.
+    // The record at a place, and a wiped one past the end. With `at_or`, as in `path_at`, the table is copied once more.
     pub fn task_at(self, i: usize) -> Task
         ensures { result ≡ task_at self i }
     {
@@ -124,7 +123,8 @@ impl Table {
         held
     }
 
-    // The map of the units on which a live task that the selection picks runs: one pass over the records.
+    // The map of the units on which a live task that the selection picks runs: one pass over the records. (One function
+    // for this and `holders`, with a test and a number as closures, is no plainer than two loops.)
     #[tactic(auto, using(crate::proofs::Stepping::running_all, task::proofs::Gathering::gather_start))]
     pub fn running_among(self, s: Selection) -> u8
         ensures { result ≡ running_among self s }

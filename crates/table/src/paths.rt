@@ -67,7 +67,8 @@ fn with_cleared_attention(a: Path) -> Path
     }
 }
 
-// The place of an id among the first `count` of the paths, or 8.
+// The place of an id among the first `count` of the paths, or 8: `Tables.place_of`, and what is proved of it in the
+// crates above, has that number.
 #[tactic(auto, using(task::proofs::Loops::first_loop))]
 pub fn place_of(paths: [Path; PATHS], count: u8, id: u32) -> usize
     ensures { result ≡ place_of paths count id }
@@ -122,7 +123,8 @@ pub fn give_reset_attention(mut paths: [Path; PATHS], count: u8, unmark: bool) -
     paths
 }
 
-// Cleared attention on each path of the map, unless reset is pending.
+// Cleared attention on each path of the map, unless reset is pending. (A helper for both loops, with the test and the
+// change as closures, is no plainer.)
 #[tactic(auto, using(crate::proofs::Changing::paths_start))]
 pub fn give_cleared_attention(mut paths: [Path; PATHS], others: u8) -> [Path; PATHS]
     ensures { result ≡ cleared_attention_in paths others }
@@ -136,7 +138,7 @@ pub fn give_cleared_attention(mut paths: [Path; PATHS], others: u8) -> [Path; PA
 }
 
 impl Table {
-    // The place of an id among the listed paths, or 8.
+    // The place of an id among the listed paths, or 8, as `place_of` says.
     #[tactic(auto, using(crate::proofs::Changing::place_fits))]
     pub fn path_of(self, id: u32) -> u8
         ensures { result ≡ path_of self id }
@@ -144,8 +146,8 @@ impl Table {
         place_of(self.paths, self.count, id) as u8
     }
 
-    // The path at a place, and a wiped one past the end. The paths alone are copied: where they are lent out of the
-    // table, the compiler copies all of it.
+    // The path at a place, and a wiped one past the end. The paths alone are copied: lent out of the table, they have
+    // the compiler copy all of it.
     pub fn path_at(self, p: usize) -> Path
         ensures { result ≡ path_at self p }
     {
