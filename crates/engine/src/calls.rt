@@ -259,7 +259,7 @@ fn judge(
 }
 
 // The device has finished the running task of an arrival number, after so many bytes: it ends, or with CONFIRM waits
-// to be confirmed.
+// to be confirmed. (The drive hands in page 01's fields, one argument each.)
 pub fn finish(
     mut t: Table,
     arrival: u64,

@@ -28,7 +28,7 @@ fn calls(b: [u8; 64], reply: &mut [u8; 64]) -> Table {
     o.table
 }
 
-// The same calls, with other bytes and in another order.
+// The same calls, with other bytes and in another order: two functions, so that each call is made at two places.
 fn calls_again(b: [u8; 64], reply: &mut [u8; 64]) -> Table {
     let o = setup(&[u32::from(b[10])], b[11], u64::from(b[12]));
     let o = total_reset(o.table);

@@ -173,7 +173,7 @@ pub fn goes_by_unit(w: Request) -> bool
     }
 }
 
-// What follows the finish of a command, by its CONFIRM bit.
+// What follows the finish of a command, by its CONFIRM bit. (No `From<bool>`: it would not say which bit.)
 fn sequel_of(confirm: bool) -> Sequel
     ensures { result ≡ sequel_of confirm }
 {
@@ -311,7 +311,8 @@ fn plan_confirm(own: Option<Pick>, p: u8, tag: u16, m: &[u8], offset: u32, compl
     }
 }
 
-// The plan for what the path at p asks with a tag, from what was looked up in the table and the next arrival number.
+// The plan for what the path at p asks with a tag, from what was looked up in the table and the next arrival number. (A
+// struct of p, tag and m would be made in one place and taken apart in three: no plainer.)
 pub fn find_plan(s: Lookup, next: u64, p: u8, tag: u16, m: &[u8], w: Request) -> Plan
     ensures { result ≡ plan_of s next p tag m.now w }
 {

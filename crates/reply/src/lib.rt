@@ -118,7 +118,8 @@ fn invalid_bytes(tag: u16) -> [u8; STATUS_LENGTH]
 }
 
 // Writes the reply at the front of the buffer, and answers how many bytes it has. A refusal changes nothing, and bytes
-// after the reply keep their values.
+// after the reply keep their values. (One function for the arms here and in `stands` would hand out an array with a
+// length beside it, which is no plainer.)
 #[tactic(auto, unfolding(crate::specs::Calls::written_of, crate::specs::Calls::left_of))]
 pub fn write(r: Reply, buf: &mut [u8]) -> Result<usize, Refusal>
     ensures { Writes r buf.old result buf.new }

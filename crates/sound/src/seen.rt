@@ -1,5 +1,6 @@
 // The map of what was seen, in front of the pairwise walk: each live record sets a bit for each thing that no other may
 // share with it. Where none of a record's bits is set, no record below clashes with it; where one is, the walk decides.
+// Memory is fixed, and ClearIsFree speaks of these bits: so an array of words, and no set of the library.
 ghost use Rattle.std.specs.Prelude.{◌≡◌};
 ghost use Rattle.sound.specs.Seen;
 ghost use Rattle.sound.specs.Seen.{name_bit, number_bit, running_bit, aca_bit, is_seen, with_seen_if, with_bits_of};

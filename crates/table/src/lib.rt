@@ -34,7 +34,8 @@ pub struct Unit {
     pub aca: Option<u8>,
 }
 
-// The table: which records are live, the next arrival number, how many paths are listed, the mask of attached units.
+// The table: which records are live, the next arrival number, how many paths are listed, the mask of attached units. Its
+// size is fixed, and a path past the count is all zero, as a sound table asks: so an array and a count, and no Vec.
 #[derive(Clone, Copy)]
 pub struct Table {
     pub live: u64,

@@ -88,7 +88,8 @@ fn has_id(count: usize, id: u32, p: usize, a: Path) -> bool
     p < count && a.id == id
 }
 
-// The path's mark set or cleared.
+// The path's mark set or cleared. (This and `drop_attention` as one function, with the change as a closure, are no
+// plainer.)
 #[tactic(auto, unfolding(crate::specs::Tables::marked_in))]
 pub fn mark(mut paths: [Path; PATHS], p: usize, full: bool) -> [Path; PATHS]
     ensures { result ≡ marked_in paths p full }

@@ -16,7 +16,8 @@ pub enum Alteration {
     Await(u64),
 }
 
-// What happens to the records.
+// What happens to the records. Handed to one function, which the compiler keeps apart from the calls, so that the stack
+// of each stays within its bound: so an enum, and no closure.
 #[derive(Clone, Copy)]
 pub enum Step {
     // Every record stays.

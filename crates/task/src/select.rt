@@ -171,7 +171,8 @@ fn picked(s: Selection, a: Task) -> bool
         && asked(s.phase, a.phase)
 }
 
-// Whether record i is live and the selection picks the task a in it.
+// Whether record i is live and the selection picks the task a in it. (The map, the place and the record as a struct
+// would be made for each record of a loop, to be taken apart at once: no plainer.)
 pub fn picked_live(live: u64, s: Selection, i: usize, a: Task) -> bool
     ensures { result ≡ picks_live live s i a }
 {

@@ -11,7 +11,8 @@ use plan::Answer;
 use table::Table;
 use wire::codes::{REPLY_ROOM, Refusal};
 
-// Where a player stands: in an input that goes on, at its end, at something malformed, or at a refused setup.
+// Where a player stands: in an input that goes on, at its end, at something malformed, or at a refused setup. Four ways,
+// none of which has a value.
 #[derive(Clone, Copy, PartialEq, Eq)]
 pub enum State {
     Playing,
@@ -162,7 +163,7 @@ fn idle(p: Player, state: State) -> Turn
 }
 
 // One event in, one line out; nothing is written where there is no event, or where the buffer is under 64 bytes, and
-// then nothing is played either.
+// then nothing is played either. The line is lent and its length answered, since there is no heap.
 #[tactic(auto, using(crate::proofs::Lines::nothing_counted, crate::proofs::Lines::nothing_copied), unfolding(crate::specs::Playing::step_of, crate::specs::Playing::line_left))]
 pub fn advance(p: Player, s: &[u8], line: &mut [u8]) -> Step
     ensures { Advances p s.now line.old result line.new }

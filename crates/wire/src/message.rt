@@ -17,7 +17,7 @@ pub struct Flags {
     pub queue: Kind,
 }
 
-// A received message with its fields.
+// A received message with its fields: a case for each kind with its own, TAG and RETURN PATH ID too, as page 01 asks.
 #[derive(Clone, Copy)]
 pub enum Message {
     Command {
