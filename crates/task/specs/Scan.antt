@@ -1,7 +1,7 @@
 -- The scan: a fold over the records that keeps the task that goes before every other picked so far. What it comes to
 -- is said in Next.antt.
 use Rattle.std.specs.Prelude.{ℕ, ◌+◌, Bool, true, cond, not, ◌&&◌, ◌||◌, List, [], ◌∷◌, ltb, Option, Some, None}
-use Rattle.task.specs.Tasks.{no_task, is_head}
+use Rattle.task.specs.Tasks.{is_head}
 use Rattle.task.specs.Selections.{picks_live}
 use Rattle.task.specs.declared.Task.{Task}
 use Rattle.task.specs.declared.select.Selection.{Selection}
