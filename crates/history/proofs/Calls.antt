@@ -56,7 +56,6 @@ use Rattle.plan.specs.declared.Request.{Request}
 use Rattle.plan.specs.declared.Request.TheVariants.{Command, Manage, Confirm}
 use Rattle.plan.specs.declared.Asked.{Asked}
 use Rattle.plan.specs.declared.Plan.{Plan}
-use Rattle.plan.specs.declared.Answer.TheVariants as answer
 use Rattle.engine.specs.declared.Outcome.{Outcome}
 use Rattle.engine.proofs.Outcomes.{each_message, each_start, each_finish, each_reset, each_confirm}
 use Rattle.engine.proofs.Keeps.{accept_has_room}

@@ -11,7 +11,6 @@ use Rattle.wire.specs.declared.codes.Refusal.{Refusal}
 use Rattle.table.specs.declared.Table.{Table}
 use Rattle.engine.specs.Calls.{setup_of}
 use Rattle.plan.specs.declared.Answer.{Answer}
-use Rattle.plan.specs.declared.Answer.TheVariants as answer
 use Rattle.engine.specs.declared.Outcome.{Outcome}
 use Rattle.history.specs.Trace.{Event, Start, Finish, TotalReset, Told}
 use Rattle.history.specs.Demand.{Call, told, Chained, last_table, Agrees, Demand3}

@@ -44,7 +44,7 @@ use Rattle.rules.specs.declared.command.Ruling.{Ruling}
 use Rattle.rules.specs.declared.command.Ruling.TheVariants.{Refuse, Respond, Report, Invalid, Accept}
 use Rattle.rules.specs.declared.manage.Order.{Order}
 use Rattle.rules.specs.declared.manage.Order.TheVariants.{AbortTask, AbortTaskSet, ClearTaskSet, ClearAca, UnitReset, TargetReset}
-use Rattle.plan.specs.Plans.{asking, asked_in, reply_of, ruled, order_plan, units_after, asked_of}
+use Rattle.plan.specs.Plans.{asking, asked_in, reply_of, ruled, order_plan, units_after}
 use Rattle.plan.proofs.Promises.{awaited_is}
 use Rattle.plan.specs.declared.Request.{Request}
 use Rattle.plan.specs.declared.Request.TheVariants.{Command, Manage, Confirm}

@@ -19,7 +19,6 @@ use Rattle.rules.specs.declared.manage.Order.{Order}
 use Rattle.rules.specs.declared.manage.Order.TheVariants.{AbortTask, AbortTaskSet, ClearTaskSet, ClearAca, UnitReset, TargetReset}
 use Rattle.plan.specs.declared.Request.{Request}
 use Rattle.plan.specs.declared.Request.TheVariants.{Command, Manage, Confirm}
-
 use Rattle.engine.specs.declared.Outcome.{Outcome}
 use Rattle.history.specs.Trace.{Event, Message, Start, Finish, TotalReset, Told, nth, event_numbered, counts_as_status, counts_as_management, counts_as_reset, Accepts, ended, fate_of, place_in, effect_told}
 use Rattle.history.specs.Ledger.{Ending, Entry, is_open, times_ended, ledger, count_of, Has, accepted_from, ended_from}

@@ -12,7 +12,7 @@ use Rattle.task.specs.declared.select.Whose.TheVariants.{Anyone}
 use Rattle.task.specs.declared.select.Selection.{Selection}
 use Rattle.table.specs.Tables.{ended_by}
 use Rattle.table.specs.declared.Table.{Table}
-use Rattle.plan.specs.Plans.{asking, asked_in}
+use Rattle.plan.specs.Plans.{asked_in}
 use Rattle.engine.specs.Calls.{message_of, start_of, finish_of, total_reset_of, setup_of, replied, out}
 use Rattle.rules.specs.declared.manage.Order.{Order}
 use Rattle.rules.specs.declared.manage.Order.TheVariants.{AbortTask, AbortTaskSet, ClearTaskSet, ClearAca, UnitReset, TargetReset}

@@ -15,7 +15,7 @@ use Rattle.table.specs.Steps.{running_among}
 use Rattle.table.specs.declared.Table.{Table}
 use Rattle.rules.specs.declared.manage.Order.{Order}
 use Rattle.rules.specs.declared.manage.Order.TheVariants.{AbortTask, AbortTaskSet, ClearTaskSet, ClearAca, UnitReset, TargetReset}
-use Rattle.plan.specs.Plans.{asking, asked_in, reply_of}
+use Rattle.plan.specs.Plans.{asked_in, reply_of}
 use Rattle.plan.specs.declared.Request.{Request}
 use Rattle.plan.specs.declared.Request.TheVariants.{Command, Manage, Confirm}
 use Rattle.plan.specs.declared.Asked.{Asked}

@@ -18,7 +18,7 @@ use Rattle.task.specs.declared.Sequel.{Sequel}
 use Rattle.task.specs.declared.Task.{Task}
 use Rattle.task.specs.declared.select.Selection.{Selection}
 use Rattle.rules.specs.Management.{ends_of}
-use Rattle.plan.specs.Plans.{asking, asked_in, sequel_of, reply_of}
+use Rattle.plan.specs.Plans.{asked_in, sequel_of, reply_of}
 use Rattle.rules.specs.declared.manage.Order.{Order}
 use Rattle.rules.specs.declared.manage.Order.TheVariants.{AbortTask, AbortTaskSet, ClearTaskSet, ClearAca, UnitReset, TargetReset}
 use Rattle.plan.specs.declared.Request.{Request}

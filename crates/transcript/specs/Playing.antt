@@ -7,7 +7,6 @@ use Rattle.task.specs.Map.{live_count}
 use Rattle.table.specs.Tables.{zero_table}
 use Rattle.table.specs.declared.Table.{Table}
 use Rattle.plan.specs.declared.Answer.{Answer}
-use Rattle.plan.specs.declared.Answer.TheVariants as answer
 use Rattle.engine.specs.Calls.{setup_of}
 use Rattle.engine.specs.declared.Outcome.{Outcome}
 use Rattle.input.specs.Reading.{header_of}

@@ -5,7 +5,6 @@ use mathlib.Core.Path.{◌≡◌, sym, ap, ◌∙◌}
 use mathlib.Core.List.{List, [], map}
 use native.Mathlib.Omega.{arith}
 use lib.ListN.{get_or}
-use Rattle.wire.specs.declared.codes.Refusal.{Refusal}
 use Rattle.wire.specs.Codes
 use Rattle.wire.proofs.Results.{same_Ok, ok-err, err-ok}
 use Rattle.table.specs.declared.Table.{Table}

@@ -4,7 +4,6 @@ use Rattle.std.specs.Prelude.{ℕ, ◌≡◌, List}
 use Rattle.wire.specs.declared.codes.Refusal.{Refusal}
 use Rattle.table.specs.declared.Table.{Table}
 use Rattle.plan.specs.declared.Answer.{Answer}
-use Rattle.plan.specs.declared.Answer.TheVariants as answer
 use Rattle.engine.specs.Calls.{MessageContract}
 use Rattle.worked.specs.Examples.{quiet, full, plain, resumed, buffer}
 use Rattle.engine.specs.declared.Outcome.{Outcome}
