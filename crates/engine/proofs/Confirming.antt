@@ -26,7 +26,7 @@ use Rattle.sound.specs.Promises.{Good}
 use Rattle.table.specs.declared.Table.{Table}
 use Rattle.table.proofs.Views.{OnlyTasks, live_at, spared, at_ended, ended_only, ended_next, altered_at_law, altered_other, altered_only, altered_next, pick_at}
 use Rattle.rules.specs.Facts.{lookup_of}
-use Rattle.plan.specs.Plans.{asking, asked_of, asked_in, awaited}
+use Rattle.plan.specs.Plans.{asking, asked_in, awaited}
 use Rattle.plan.proofs.Promises.{awaited_is}
 use Rattle.plan.specs.declared.Request.TheVariants.{Confirm}
 use Rattle.plan.specs.declared.Plan.{Plan}

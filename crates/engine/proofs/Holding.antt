@@ -35,7 +35,7 @@ use Rattle.rules.specs.declared.change.QueueChange.TheVariants.{Leaves, Holds}
 use Rattle.rules.specs.declared.command.Ruling.{Ruling}
 use Rattle.rules.specs.declared.command.Ruling.TheVariants.{Refuse, Respond, Report, Invalid, Accept}
 use Rattle.rules.proofs.Promises.{holds_as_asked, eight_takes_attention, attached_is_seven_to_ten, owners_alone}
-use Rattle.plan.specs.Plans.{asking, asked_of, asked_in, ruled, sender_after}
+use Rattle.plan.specs.Plans.{asking, asked_in, ruled, sender_after}
 use Rattle.plan.specs.declared.Request.TheVariants.{Command}
 use Rattle.plan.specs.declared.Answer.{Answer}
 use Rattle.engine.specs.Calls.{plan_at, with_parts, with_records, carried_out, message_of}

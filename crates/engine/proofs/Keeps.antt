@@ -13,7 +13,6 @@ use Rattle.wire.specs.Block.{cut_short, no_block}
 use Rattle.wire.specs.declared.message.Flags.{Flags}
 use Rattle.task.specs.Tasks.{is_aca}
 use Rattle.task.specs.Selections.{picks, every_task, named, on_unit, aca_on, aca_from_on, running_on, waiting_on, aca_waiting_on}
-use Rattle.wire.specs.declared.codes.Kind.TheVariants as kind
 use Rattle.task.specs.declared.Task.{Task}
 use Rattle.std.specs.Prelude.{Some, None, is_some}
 use Rattle.wire.proofs.Table.{cond_ind}

@@ -23,9 +23,8 @@ use Rattle.table.specs.Steps.{running_among}
 use Rattle.table.specs.Tables.{path_of, path_at, is_attached, pick_of, started, finished, reset_of}
 use Rattle.sound.specs.Sound.{sound_of}
 use Rattle.table.specs.declared.Table.{Table}
-use Rattle.table.proofs.Views.{altered_none, finished_none}
 use Rattle.rules.specs.declared.change.Change.TheVariants as change
-use Rattle.plan.specs.Plans.{asking, asked_of, asked_in, planned, refusing, confirm_plan, awaited, confirmed}
+use Rattle.plan.specs.Plans.{asking, asked_in, planned, refusing, confirm_plan, awaited, confirmed}
 use Rattle.plan.specs.declared.Request.{Request}
 use Rattle.plan.specs.declared.Asked.{Asked}
 use Rattle.plan.specs.declared.RecordChange.TheVariants as records

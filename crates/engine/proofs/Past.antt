@@ -26,7 +26,7 @@ use Rattle.rules.specs.Rules.{passes_attention, reset_to_report, cleared_to_repo
 use Rattle.rules.specs.Management.{order_code}
 use Rattle.rules.specs.declared.facts.Facts.{Facts}
 use Rattle.rules.specs.declared.command.Ruling.{Ruling}
-use Rattle.plan.specs.Plans.{asking, asked_of, asked_in, order_plan, confirm_plan}
+use Rattle.plan.specs.Plans.{asked_of, asked_in, order_plan, confirm_plan}
 use Rattle.plan.specs.declared.Asked.{Asked}
 use Rattle.engine.specs.Calls.{heard_of, plan_at, plan_for, answered_to, message_of, handed_over}
 use Rattle.engine.specs.Promises.{PastIsNotRead}

@@ -1,6 +1,6 @@
 -- What each call answers, what table it hands back, what it ended, and what it leaves in the reply buffer: the refusals
 -- in their order, then the rest.
-use Rattle.std.specs.Prelude.{ℕ, Result, Ok, Err, ◌≡◌, Bool, true, false, cond, not, ◌&&◌, ◌||◌, List, [], length, eqb, ltb, leb, Some, None, is_some}
+use Rattle.std.specs.Prelude.{ℕ, Result, Ok, Err, ◌≡◌, Bool, true, false, cond, not, ◌&&◌, ◌||◌, List, [], length, eqb, ltb, leb, is_some}
 use Rattle.std.specs.declared.option.Option as option
 use Rattle.std.proofs.Math.Option.{Option, none, some}
 use Rattle.wire.specs.Codes
@@ -16,7 +16,6 @@ use Rattle.task.specs.Map.{gone}
 use Rattle.std.specs.Option.{ok_or}
 use Rattle.task.specs.Tasks.{offset_of}
 use Rattle.task.specs.Selections.{every_task, running_on, waiting_on, aca_waiting_on, running_as}
-use Rattle.task.specs.declared.Task.{Task}
 use Rattle.task.specs.declared.scan.Pick.{Pick}
 use Rattle.task.specs.declared.select.Selection.{Selection}
 use Rattle.table.specs.Tables.{path_of, path_at, unit_at, is_attached, has_aca, pick_of, others_on, accepted, ended_by, started, restarted, finished, reset_of}

@@ -1,6 +1,6 @@
 -- M-103, a refused command holds the queue as well: which answers to a command give its unit an ACA, whose that is, and
 -- that no other answer to a command changes an ACA. Proved in proofs/Holding.antt.
-use Rattle.std.specs.Prelude.{Result, Ok, Err, ℕ, ◌<◌, ◌^◌, ◌≡◌, Bool, true, false, ◌&&◌, List, eqb, Some}
+use Rattle.std.specs.Prelude.{Result, Ok, ℕ, ◌<◌, ◌^◌, ◌≡◌, Bool, true, false, ◌&&◌, List, eqb, Some}
 use Rattle.std.proofs.Math.Option.{Option, none, some}
 use Rattle.wire.specs.Codes
 use Rattle.wire.specs.Messages.{read_of}
@@ -16,7 +16,7 @@ use Rattle.rules.specs.Facts.{facts_of}
 use Rattle.rules.specs.Rules.{deciding}
 use Rattle.rules.specs.Promises.{seven_to_ten}
 use Rattle.wire.specs.declared.codes.Refusal.{Refusal}
-use Rattle.plan.specs.Plans.{asking, asked_of, asked_in, reply_of}
+use Rattle.plan.specs.Plans.{asking, asked_in, reply_of}
 use Rattle.plan.specs.declared.Request.TheVariants.{Command}
 use Rattle.plan.specs.declared.Answer.{Answer}
 use Rattle.engine.specs.Calls.{MessageContract}

@@ -22,7 +22,7 @@ use Rattle.table.specs.Setup.{bad_list}
 use Rattle.table.specs.View.{at}
 use Rattle.sound.specs.Promises.{Good}
 use Rattle.table.specs.declared.Table.{Table}
-use Rattle.plan.specs.Plans.{asking, asked_of, asked_in, reply_of}
+use Rattle.plan.specs.Plans.{asking, asked_in, reply_of}
 use Rattle.plan.specs.declared.Request.TheVariants.{Confirm}
 use Rattle.plan.specs.declared.Answer.{Answer}
 use Rattle.plan.specs.declared.Answer.TheVariants as answer

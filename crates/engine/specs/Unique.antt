@@ -1,7 +1,6 @@
 -- Each call's contract determines what it answers: two outcomes that meet it are equal, and so are the reply buffers
 -- as they are left.
 use Rattle.std.specs.Prelude.{ℕ, Result, ◌≡◌, List}
-use Rattle.wire.specs.declared.codes.Refusal.{Refusal}
 use Rattle.wire.specs.declared.codes.StatusByte.{StatusByte}
 use Rattle.wire.specs.declared.codes.Sense.{Sense}
 use Rattle.table.specs.declared.Table.{Table}

@@ -167,12 +167,7 @@ fn may_go(aca: Option<u8>, unit: u8) -> Selection
 // The task that a start is about, by what was asked of the table: whether it passed the check, the unit is attached and
 // busy, and the task that may go next there.
 #[tactic(auto, unfolding(crate::specs::Steps::chosen_by))]
-fn choose(
-    checked: bool,
-    attached: bool,
-    busy: bool,
-    next: Option<Pick>,
-) -> Result<Pick, Refusal>
+fn choose(checked: bool, attached: bool, busy: bool, next: Option<Pick>) -> Result<Pick, Refusal>
     ensures { result ≡ chosen_by checked attached busy next }
 {
     if !checked {

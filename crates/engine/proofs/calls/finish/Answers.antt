@@ -1,5 +1,4 @@
 -- `calls::finish` meets its contract. Assumes nothing.
-use mathlib.Core.Path.{◌∙◌}
 use Rattle.engine.proofs.Calling.{answers, unwritten, finish_refused, finish_done}
 use Rattle.engine.proofs.calls.finish.Goals as goal
 
