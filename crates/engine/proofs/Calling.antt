@@ -31,8 +31,9 @@ use Rattle.task.specs.declared.select.Selection.{Selection}
 use Rattle.task.proofs.Ways.{option_ind, never, answered_true, answered_false}
 use Rattle.task.proofs.Maps.{gone_none}
 use Rattle.task.proofs.Next.{scan_stands}
-use Rattle.table.specs.Tables.{path_of, path_at, unit_at, task_at, is_attached, has_aca, pick_of, others_on, reset_attention_in, aca_cleared_in, with_paths, with_units, finished}
+use Rattle.table.specs.Tables.{path_of, if_listed, path_at, unit_at, task_at, is_attached, has_aca, pick_of, others_on, reset_attention_in, aca_cleared_in, with_paths, with_units, finished}
 use Rattle.table.specs.Steps.{stepped, finish_step, finish_units, holders_of, running_among}
+use Rattle.table.proofs.Listed.{place_is, place_below, place_past}
 use Rattle.table.proofs.Stepping.{holders_found}
 use Rattle.std.specs.Option.{is_some}
 use Rattle.table.specs.declared.steps.Alteration.TheVariants.{Run, Restart}
@@ -99,16 +100,17 @@ unit_alike t m p tag next u o b f w y e k h g =
     tasks_unasked (unit_alone f o) (lookup_for t p tag w) next p tag m w y (e ∙ ap (is_attached t) k) (λ c. g ∙ rw (h, c, k))
 
 -- the plan for what a path asks, looked up in the two ways
-module _ (t : Table) (m : List ℕ) (path tag : ℕ) (w : Request) {pl : Plan} {p u : ℕ} {c : Bool} {s : Lookup} (d : p ≡ path_of t path) (e : u ≡ unit_asked w) (g : c ≡ goes_by_unit w)
-    (h : pl ≡ cond (ltb p 8) (plan_of s t.next p tag m w) (refusing Codes.unknown_path)) where
+module _ (t : Table) (m : List ℕ) (path tag : ℕ) (w : Request) {pl : Plan} {p u : ℕ} {c : Bool} {s : Lookup} (d : Some p ≡ if_listed (path_of t path)) (e : u ≡ unit_asked w) (g : c ≡ goes_by_unit w)
+    (h : pl ≡ plan_of s t.next p tag m w) where
+
   pub read_by : {n : ℕ} (o : ℕ) → c ≡ false → n ≡ tag_asked tag w → s ≡ lookup_of t p n u (cond false o 0) → pl ≡ plan_for t m path tag w
   unfolding plan_for plan_at
-  read_by o y n k = h ∙ rw (k, n, e, others_alike t m _ tag t.next w (sym g ∙ y), d)
+  read_by o y n k = h ∙ rw (k, n, e, others_alike t m _ tag t.next w (sym g ∙ y), place_is _ d, place_below _ d)
 
   -- what an order asks that goes by its unit alone
   pub read_by_unit : {o : ℕ} {b f : Bool} → c ≡ true → b ≡ clears_set w → o ≡ cond b (others_on t u p) 0 → f ≡ is_attached t u → s ≡ unit_alone f o → pl ≡ plan_for t m path tag w
   unfolding plan_for plan_at
-  read_by_unit y b o f k = h ∙ rw (k, unit_alike t m _ tag t.next _ _ _ _ w (sym g ∙ y) f e b o, d)
+  read_by_unit y b o f k = h ∙ rw (k, unit_alike t m _ tag t.next _ _ _ _ w (sym g ∙ y) f e b o, place_is _ d, place_below _ d)
 
 -- the step that a plan asks for does what the plan says
 steps_so : (t : Table) (d : RecordChange) → stepped t (step_of d) ≡ with_records t d
@@ -162,6 +164,11 @@ module _ (t : Table) (m : List ℕ) (room : ℕ) {b : Bool} (s : b ≡ sound_of 
   pub refuses : {n : Refusal} {o : Outcome} → r ≡ Err n → o ≡ refused t n → o ≡ message_of t m room
   unfolding message_of answered_to
   refuses e k = k ∙ rw (← s, ← h, e)
+
+  -- 3: the path is not listed
+  pub unlisted : {a : Asked} {o : Outcome} → r ≡ Ok a → None ≡ if_listed (path_of t a.path) → o ≡ refused t Codes.unknown_path → o ≡ message_of t m room
+  unfolding message_of answered_to plan_for carried_out with_records
+  unlisted e d k = k ∙ rw (← s, ← h, e, place_past _ d, gone_none t.live)
 
   pub carries : {a : Asked} {pl : Plan} {u : Table} {g to stops : ℕ} → r ≡ Ok a → pl ≡ plan_for t m a.path a.tag a.request
       → u ≡ carried_out t pl → g ≡ gone t.live u.live → to ≡ reply_path pl.answer a.path → stops ≡ stops_for t pl.records

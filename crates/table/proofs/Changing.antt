@@ -1,5 +1,4 @@
--- The loops over the paths and over the records, a unit's ACA, and that a place fits. Assumes nothing.
---     listed_there, listed_nowhere, place_fits      of `if_listed`
+-- The loops over the paths and over the records, a unit's ACA. Assumes nothing.
 --     path_through, path_kept      the turns of the loops over the paths
 --     end_loop      for `search (rules, ..)`, the turns of the loop over the records;        owner_ways      of `claim`
 use Rattle.std.specs.Prelude.{Option, Some, None}
@@ -7,14 +6,9 @@ use Prim.Native.Nat.{ℕ, ◌+◌, ◌^◌, ◌≤◌, ◌<◌}
 use mathlib.Core.Path.{◌≡◌, refl, sym, ap, ap₂, ◌∙◌}
 use mathlib.Core.Bool.{Bool, true, false, cond, not, ◌&&◌}
 use mathlib.Core.List.{List}
-use mathlib.Core.Logic.{⊎_elim}
-use native.Mathlib.Nat.{le_refl, le_antisymm, le_of_eq, lt_trans}
+use native.Mathlib.Nat.{le_refl, le_antisymm}
 use native.Mathlib.Omega.{arith}
-use lib.Dec.{ltb}
 use lib.ListN.{length, get_or, set, length-set}
-use borrow.Author.Tests.{lt-ltb, ltb-true}
-use Rattle.std.proofs.lemmas.Option.{none-some, same_Some}
-use Rattle.wire.proofs.Table.{cond_ind}
 use Rattle.task.specs.Index.{map_at}
 use Rattle.task.specs.Tasks.{no_task}
 use Rattle.task.specs.Map.{is_live, without_bit}
@@ -23,25 +17,13 @@ use Rattle.task.specs.declared.Task.{Task}
 use Rattle.task.specs.declared.select.Selection.{Selection}
 use Rattle.task.proofs.Ways.{never}
 use Rattle.std.specs.Prelude.{Option, Some, None}
-use Rattle.task.proofs.Places.{lt_or_le, first_before, first_none, map_of_ext}
+use Rattle.task.proofs.Places.{map_of_ext}
 use Rattle.task.proofs.Lists.{map_below, map_below_ahead, map_below_zero, map_below_step, map_below_put, map_below_skip, map_below_all, length_map_below}
 use Rattle.task.proofs.Clearing.{clear_below, clear_zero, clear_step, clear_skip, clear_ahead, clear_all}
-use Rattle.table.specs.Tables.{no_path, task_at, if_listed, has_aca, picks_at, with_tasks, ended_by, claimed_unit}
+use Rattle.table.specs.Tables.{no_path, task_at, has_aca, picks_at, with_tasks, ended_by, claimed_unit}
 use Rattle.table.specs.declared.Path as path
 use Rattle.table.specs.declared.Table.{Table}
 use Rattle.table.proofs.Lists.{unmapped, past_end}
-
--- ---- the place of an id, as it is answered
-
-pub listed_there : {n : ℕ} (k : ℕ) → n ≡ k → n < 8 → Some n ≡ if_listed k
-listed_there k e l = rw (← e, lt-ltb _ _ l)
-
-pub listed_nowhere : (k : ℕ) → 8 ≡ k → None ≡ if_listed k
-listed_nowhere k e = rw (← e)
-
--- a place that is answered is below 8
-pub place_fits : {n : ℕ} (k : ℕ) → Some n ≡ if_listed k → n < 8
-place_fits {n} k = cond_ind (λ (o : Option ℕ). Some n ≡ o → n < 8) (ltb k 8) (λ l e. rw (same_Some n k e) (ltb-true k 8 l)) (λ _ e. absurd (none-some _ (sym e)))
 
 -- ---- a loop over the paths: those that q picks go through g
 

@@ -139,14 +139,11 @@ pub fn give_cleared_attention(mut paths: [Path; PATHS], others: u8) -> [Path; PA
 
 impl Table {
     // The place of an id among the listed paths.
-    #[tactic(auto, using(crate::proofs::Changing::place_fits))]
+    #[tactic(auto, using(crate::proofs::Listed::place_fits))]
     pub fn path_of(self, id: u32) -> Option<u8>
         ensures { result ≡ if_listed (path_of self id) }
     {
-        match place_of(self.paths, self.count, id) {
-            Some(p) => Some(p as u8),
-            None => None,
-        }
+        Some(place_of(self.paths, self.count, id)? as u8)
     }
 
     // The path at a place, and a wiped one past the end. The paths alone are copied: lent out of the table, they have

@@ -1,7 +1,7 @@
 -- `paths::place_of` meets its contract. The loop's invariant: no path below p has the id. Assumes nothing.
 use Rattle.task.proofs.Loops.{first_loop}
 use Rattle.table.specs.Tables.{place_of}
-use Rattle.table.proofs.Changing.{listed_there, listed_nowhere}
+use Rattle.table.proofs.Listed.{listed_there, listed_nowhere}
 use Rattle.table.proofs.paths.place_of.Goals as goal
 
 pub returns-then-has_id : goal.returns-then-has_id
