@@ -1,46 +1,33 @@
 -- The calls: a lemma for each way out. Assumes nothing.
---     unread, others_sought, none_sought, read_by, read_by_unit, carries_nothing, carries_out, carries_order, carries      a message: the plan for what was heard, the table after it, and the outcome
+--     unread, others_sought, none_sought, read_by, read_by_unit, unlisted, carries_nothing, carries_out, carries_order, carries      a message: the plan for what was heard, the table after it, and the outcome
 --     starts, finishes, reset_refused, resets      the outcome, by what was asked of the table, the verdict and the step
 --     answers      the contract of a call with a reply buffer
 use Rattle.std.specs.Prelude.{Result, Ok, Err, Option}
-use Prim.Native.Nat.{ℕ, ◌<◌, ◌≤◌}
+use Prim.Native.Nat.{ℕ}
 use mathlib.Core.Path.{◌≡◌, refl, sym, ap, ◌∙◌}
-use mathlib.Core.Bool.{Bool, true, false, cond, not, ◌&&◌, ◌||◌}
+use mathlib.Core.Bool.{Bool, true, false, cond, not}
 use mathlib.Core.List.{List}
-use mathlib.Core.Option.{none}
 use Rattle.std.specs.Prelude.{Option, Some, None}
-use lib.Dec.{eqb, leb, ltb}
+use lib.Dec.{ltb}
 use lib.ListN.{length}
 use Rattle.wire.proofs.Table.{cond_ind}
-use borrow.Author.Tests.{not-false, lt-ltb, le-ltb, le-leb, lt-leb, eq-eqb, ne_eqb}
 use Rattle.wire.specs.Codes
-use Rattle.wire.specs.Messages.{read_of}
 use Rattle.wire.specs.declared.codes.Refusal.{Refusal}
 use Rattle.wire.specs.declared.codes.StatusByte.{StatusByte}
 use Rattle.wire.specs.declared.codes.Sense.{Sense}
-use Rattle.wire.specs.declared.message.Message.{Message}
-use Rattle.reply.specs.Calls.{left_of}
-use Rattle.reply.specs.declared.Reply.{Reply}
 use Rattle.task.specs.Map.{gone}
-use Rattle.task.specs.Selections.{every_task, running_on, waiting_on, aca_waiting_on, running_as}
-use Rattle.wire.specs.declared.codes.Kind.{Kind}
-use Rattle.task.specs.declared.Sequel.{Sequel}
-use Rattle.task.specs.declared.Task.{Task}
+use Rattle.task.specs.Selections.{every_task, running_as}
 use Rattle.task.specs.declared.scan.Pick.{Pick}
 use Rattle.task.specs.declared.select.Selection.{Selection}
-use Rattle.task.proofs.Ways.{option_ind, never, answered_true, answered_false}
+use Rattle.task.proofs.Ways.{option_ind, never}
 use Rattle.task.proofs.Maps.{gone_none}
 use Rattle.task.proofs.Next.{scan_stands}
-use Rattle.table.specs.Tables.{path_of, if_listed, path_at, unit_at, task_at, is_attached, has_aca, pick_of, others_on, reset_attention_in, aca_cleared_in, with_paths, with_units, finished}
-use Rattle.table.specs.Steps.{stepped, finish_step, finish_units, holders_of, running_among}
+use Rattle.table.specs.Tables.{path_of, if_listed, path_at, task_at, is_attached, pick_of, others_on, reset_attention_in, aca_cleared_in, with_paths, with_units, finished}
+use Rattle.table.specs.Steps.{stepped, finish_step, finish_units, running_among}
 use Rattle.table.proofs.Listed.{place_is, place_below, place_past}
-use Rattle.table.proofs.Stepping.{holders_found}
-use Rattle.std.specs.Option.{is_some}
-use Rattle.table.specs.declared.steps.Alteration.TheVariants.{Run, Restart}
 use Rattle.table.specs.declared.steps.Step.{Step}
 use Rattle.table.specs.declared.steps.Step.TheVariants as step
-use Rattle.table.proofs.Stepping.{finish_is_step, finish_of_none}
-use Rattle.table.specs.Setup.{bad_list, setup_table}
+use Rattle.table.proofs.Stepping.{finish_is_step}
 use Rattle.sound.specs.Sound.{sound_of}
 use Rattle.sound.proofs.Exact.{check_is_exact}
 use Rattle.sound.proofs.Keeps.{reset_ends}
@@ -49,7 +36,7 @@ use Rattle.table.specs.declared.Unit as unit
 use Rattle.table.specs.declared.Table.{Table}
 use Rattle.rules.specs.Facts.{facts_of, lookup_of, unit_alone}
 use Rattle.rules.specs.declared.facts.Lookup.{Lookup}
-use Rattle.plan.specs.Plans.{asking, asked_of, asked_in, tag_asked, unit_asked, clears_set, goes_by_unit, reply_of, refusing, plan_of, paths_after, units_after}
+use Rattle.plan.specs.Plans.{tag_asked, unit_asked, clears_set, goes_by_unit, plan_of, paths_after, units_after}
 use Rattle.plan.specs.declared.Request.{Request}
 use Rattle.plan.specs.declared.Request.TheVariants.{Command, Manage, Confirm}
 use Rattle.rules.specs.declared.manage.Order.TheVariants as order
@@ -58,11 +45,10 @@ use Rattle.plan.specs.declared.RecordChange.{RecordChange}
 use Rattle.plan.specs.declared.RecordChange.TheVariants as records
 use Rattle.plan.specs.declared.Plan.{Plan}
 use Rattle.plan.proofs.Promises.{others_unasked, tasks_unasked}
-use Rattle.plan.specs.declared.Answer.{Answer}
 use Rattle.plan.specs.declared.Answer.TheVariants as answer
-use Rattle.engine.specs.Calls.{out, refused, heard_of, lookup_for, plan_at, plan_for, with_records, carried_out, reply_path, stops_for, carried, answered_to, message_of, may_go, choice_on, goes, start_choice, start_of, may_finish, sent_sense, failed, finish_choice, finishes, finish_of, total_reset_of, setup_of, replied, Answers, is_accepted}
+use Rattle.engine.specs.Calls.{refused, heard_of, lookup_for, plan_at, plan_for, with_records, carried_out, reply_path, stops_for, answered_to, message_of, may_finish, sent_sense, failed, finish_choice, finish_of, total_reset_of, replied, Answers}
 use Rattle.reply.specs.declared.Reply.TheVariants as reply
-use Rattle.engine.specs.Steps.{step_of, chosen_by, judged_by}
+use Rattle.engine.specs.Steps.{step_of, judged_by}
 use Rattle.std.specs.Option.{ok_or}
 use Rattle.wire.proofs.Results.{same_Ok, err-ok}
 use Rattle.engine.specs.declared.Outcome.{Outcome}
@@ -102,7 +88,6 @@ unit_alike t m p tag next u o b f w y e k h g =
 -- the plan for what a path asks, looked up in the two ways
 module _ (t : Table) (m : List ℕ) (path tag : ℕ) (w : Request) {pl : Plan} {p u : ℕ} {c : Bool} {s : Lookup} (d : Some p ≡ if_listed (path_of t path)) (e : u ≡ unit_asked w) (g : c ≡ goes_by_unit w)
     (h : pl ≡ plan_of s t.next p tag m w) where
-
   pub read_by : {n : ℕ} (o : ℕ) → c ≡ false → n ≡ tag_asked tag w → s ≡ lookup_of t p n u (cond false o 0) → pl ≡ plan_for t m path tag w
   unfolding plan_for plan_at
   read_by o y n k = h ∙ rw (k, n, e, others_alike t m _ tag t.next w (sym g ∙ y), place_is _ d, place_below _ d)

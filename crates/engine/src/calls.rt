@@ -10,8 +10,8 @@ use plan::{Answer, Asked, RecordChange};
 use reply::Reply;
 use rules::facts::{look_up, unit_alone};
 use sound::is_sound;
-use table::steps::{Alteration, Step, finish_step, finish_units};
 use table::Table;
+use table::steps::{Alteration, Step, finish_step, finish_units};
 use task::scan::Pick;
 use task::select::Selection;
 use wire::codes::{REPLY_ROOM, Refusal, Sense, StatusByte};
@@ -157,12 +157,7 @@ fn may_go(aca: Option<u8>, unit: u8) -> Selection
 // The task that a start is about, by what was asked of the table: whether it passed the check, the unit is attached and
 // busy, and the task that may go next there.
 #[tactic(auto, unfolding(crate::specs::Steps::chosen_by))]
-fn choose(
-    checked: bool,
-    attached: bool,
-    busy: bool,
-    next: Option<Pick>,
-) -> Result<Pick, Refusal>
+fn choose(checked: bool, attached: bool, busy: bool, next: Option<Pick>) -> Result<Pick, Refusal>
     ensures { result ≡ chosen_by checked attached busy next }
 {
     if !checked {

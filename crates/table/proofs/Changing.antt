@@ -1,4 +1,4 @@
--- The loops over the paths and over the records, a unit's ACA. Assumes nothing.
+-- The loops over the paths and over the records, and a unit's ACA. Assumes nothing.
 --     path_through, path_kept      the turns of the loops over the paths
 --     end_loop      for `search (rules, ..)`, the turns of the loop over the records;        owner_ways      of `claim`
 use Rattle.std.specs.Prelude.{Option, Some, None}
