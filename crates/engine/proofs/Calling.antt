@@ -1,5 +1,5 @@
 -- The calls: a lemma for each way out. Assumes nothing.
---     unread, others_sought, none_sought, read_by, read_by_unit, carries_nothing, carries_out, carries_order, carries      a message: the plan for what was heard, the table after it, and the outcome
+--     unread, others_sought, none_sought, read_by, read_by_unit, unlisted, carries_nothing, carries_out, carries_order, carries      a message: the plan for what was heard, the table after it, and the outcome
 --     starts, finishes, reset_refused, resets      the outcome, by what was asked of the table, the verdict and the step
 --     answers      the contract of a call with a reply buffer
 use Rattle.std.specs.Prelude.{Result, Ok, Err, Option}
@@ -20,9 +20,11 @@ use Rattle.task.specs.Selections.{every_task, running_as}
 use Rattle.task.specs.declared.scan.Pick.{Pick}
 use Rattle.task.specs.declared.select.Selection.{Selection}
 use Rattle.task.proofs.Ways.{option_ind, never}
+use Rattle.task.proofs.Maps.{gone_none}
 use Rattle.task.proofs.Next.{scan_stands}
-use Rattle.table.specs.Tables.{path_of, path_at, task_at, is_attached, pick_of, others_on, reset_attention_in, aca_cleared_in, with_paths, with_units, finished}
+use Rattle.table.specs.Tables.{path_of, if_listed, path_at, task_at, is_attached, pick_of, others_on, reset_attention_in, aca_cleared_in, with_paths, with_units, finished}
 use Rattle.table.specs.Steps.{stepped, finish_step, finish_units, running_among}
+use Rattle.table.proofs.Listed.{place_is, place_below, place_past}
 use Rattle.table.specs.declared.steps.Step.{Step}
 use Rattle.table.specs.declared.steps.Step.TheVariants as step
 use Rattle.table.proofs.Stepping.{finish_is_step}
@@ -34,7 +36,7 @@ use Rattle.table.specs.declared.Unit as unit
 use Rattle.table.specs.declared.Table.{Table}
 use Rattle.rules.specs.Facts.{facts_of, lookup_of, unit_alone}
 use Rattle.rules.specs.declared.facts.Lookup.{Lookup}
-use Rattle.plan.specs.Plans.{tag_asked, unit_asked, clears_set, goes_by_unit, refusing, plan_of, paths_after, units_after}
+use Rattle.plan.specs.Plans.{tag_asked, unit_asked, clears_set, goes_by_unit, plan_of, paths_after, units_after}
 use Rattle.plan.specs.declared.Request.{Request}
 use Rattle.plan.specs.declared.Request.TheVariants.{Command, Manage, Confirm}
 use Rattle.rules.specs.declared.manage.Order.TheVariants as order
@@ -84,16 +86,16 @@ unit_alike t m p tag next u o b f w y e k h g =
     tasks_unasked (unit_alone f o) (lookup_for t p tag w) next p tag m w y (e ∙ ap (is_attached t) k) (λ c. g ∙ rw (h, c, k))
 
 -- the plan for what a path asks, looked up in the two ways
-module _ (t : Table) (m : List ℕ) (path tag : ℕ) (w : Request) {pl : Plan} {p u : ℕ} {c : Bool} {s : Lookup} (d : p ≡ path_of t path) (e : u ≡ unit_asked w) (g : c ≡ goes_by_unit w)
-    (h : pl ≡ cond (ltb p 8) (plan_of s t.next p tag m w) (refusing Codes.unknown_path)) where
+module _ (t : Table) (m : List ℕ) (path tag : ℕ) (w : Request) {pl : Plan} {p u : ℕ} {c : Bool} {s : Lookup} (d : Some p ≡ if_listed (path_of t path)) (e : u ≡ unit_asked w) (g : c ≡ goes_by_unit w)
+    (h : pl ≡ plan_of s t.next p tag m w) where
   pub read_by : {n : ℕ} (o : ℕ) → c ≡ false → n ≡ tag_asked tag w → s ≡ lookup_of t p n u (cond false o 0) → pl ≡ plan_for t m path tag w
   unfolding plan_for plan_at
-  read_by o y n k = h ∙ rw (k, n, e, others_alike t m _ tag t.next w (sym g ∙ y), d)
+  read_by o y n k = h ∙ rw (k, n, e, others_alike t m _ tag t.next w (sym g ∙ y), place_is _ d, place_below _ d)
 
   -- what an order asks that goes by its unit alone
   pub read_by_unit : {o : ℕ} {b f : Bool} → c ≡ true → b ≡ clears_set w → o ≡ cond b (others_on t u p) 0 → f ≡ is_attached t u → s ≡ unit_alone f o → pl ≡ plan_for t m path tag w
   unfolding plan_for plan_at
-  read_by_unit y b o f k = h ∙ rw (k, unit_alike t m _ tag t.next _ _ _ _ w (sym g ∙ y) f e b o, d)
+  read_by_unit y b o f k = h ∙ rw (k, unit_alike t m _ tag t.next _ _ _ _ w (sym g ∙ y) f e b o, place_is _ d, place_below _ d)
 
 -- the step that a plan asks for does what the plan says
 steps_so : (t : Table) (d : RecordChange) → stepped t (step_of d) ≡ with_records t d
@@ -147,6 +149,11 @@ module _ (t : Table) (m : List ℕ) (room : ℕ) {b : Bool} (s : b ≡ sound_of 
   pub refuses : {n : Refusal} {o : Outcome} → r ≡ Err n → o ≡ refused t n → o ≡ message_of t m room
   unfolding message_of answered_to
   refuses e k = k ∙ rw (← s, ← h, e)
+
+  -- 3: the path is not listed
+  pub unlisted : {a : Asked} {o : Outcome} → r ≡ Ok a → None ≡ if_listed (path_of t a.path) → o ≡ refused t Codes.unknown_path → o ≡ message_of t m room
+  unfolding message_of answered_to plan_for carried_out with_records
+  unlisted e d k = k ∙ rw (← s, ← h, e, place_past _ d, gone_none t.live)
 
   pub carries : {a : Asked} {pl : Plan} {u : Table} {g to stops : ℕ} → r ≡ Ok a → pl ≡ plan_for t m a.path a.tag a.request
       → u ≡ carried_out t pl → g ≡ gone t.live u.live → to ≡ reply_path pl.answer a.path → stops ≡ stops_for t pl.records

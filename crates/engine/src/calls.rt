@@ -1,19 +1,17 @@
 // The five calls, and the part of a message that is its command block.
-ghost use Rattle.std.specs.Prelude.{◌≡◌, cond, ltb};
+ghost use Rattle.std.specs.Prelude.{◌≡◌};
 ghost use Rattle.engine.specs.Calls.{reply_path, refused, heard_of, may_go, may_finish, sent_sense, replied};
 ghost use Rattle.engine.specs.Steps.{step_of, chosen_by, judged_by};
 ghost use Rattle.engine.specs.Calls.{SetupContract, MessageContract, StartContract, FinishContract, TotalResetContract, CommandBlockContract};
-ghost use Rattle.wire.specs.Codes;
 ghost use Rattle.wire.specs.Codes.{status_byte, sense};
-ghost use Rattle.plan.specs.Plans.{refusing, plan_of};
 
 use crate::Outcome;
-use plan::{Answer, Asked, Plan, RecordChange, Request};
+use plan::{Answer, Asked, RecordChange};
 use reply::Reply;
-use rules::facts::{Lookup, look_up, unit_alone};
+use rules::facts::{look_up, unit_alone};
 use sound::is_sound;
+use table::Table;
 use table::steps::{Alteration, Step, finish_step, finish_units};
-use table::{PATHS, Table};
 use task::scan::Pick;
 use task::select::Selection;
 use wire::codes::{REPLY_ROOM, Refusal, Sense, StatusByte};
@@ -53,16 +51,6 @@ fn reply_to(a: Result<Answer, Refusal>, reply: &mut [u8])
         }
         _ => {}
     }
-}
-
-// The plan for what the path at p asks: refusal 3 where it is not listed, then by rules, orders and confirmations.
-fn plan_for(s: Lookup, next: u64, p: u8, tag: u16, m: &[u8], w: Request) -> Plan
-    ensures { result ≡ cond (ltb p 8) (plan_of s next p tag m.now w) (refusing Codes.unknown_path) }
-{
-    if p as usize >= PATHS {
-        return plan::refuse(Refusal::UnknownPath);
-    }
-    plan::find_plan(s, next, p, tag, m, w)
 }
 
 // The step of the records that a plan asks for.
@@ -116,7 +104,9 @@ pub fn message(mut t: Table, m: &[u8], reply: &mut [u8]) -> Outcome
         Err(n) => return refused(t, n),
     };
     let request = a.request;
-    let p = t.path_of(a.path);
+    let Some(p) = t.path_of(a.path) else {
+        return refused(t, Refusal::UnknownPath);
+    };
     let lun = plan::unit_asked(request);
     let others = if plan::clears_set(request) {
         t.others_on(lun, p)
@@ -128,7 +118,7 @@ pub fn message(mut t: Table, m: &[u8], reply: &mut [u8]) -> Outcome
     } else {
         look_up(t, p, plan::tag_asked(a.tag, request), lun, false)
     };
-    let plan = plan_for(lookup, t.next, p, a.tag, m, request);
+    let plan = plan::find_plan(lookup, t.next, p, a.tag, m, request);
     t.paths = plan::change_paths(t.paths, t.count, plan.change);
     t.units = plan::change_units(t.units, plan.change);
     let before = t.live;

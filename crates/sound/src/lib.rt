@@ -28,7 +28,7 @@ fn paths_distinct(t: Table) -> bool
     ensures { result ≡ paths_distinct t }
 {
     for (p, a) in t.paths.iter().enumerate() {
-        if p < t.count as usize && table::paths::place_of(t.paths, t.count, a.id) != p {
+        if p < t.count as usize && table::paths::place_of(t.paths, t.count, a.id) != Some(p) {
             return false;
         }
     }

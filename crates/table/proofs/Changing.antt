@@ -1,4 +1,4 @@
--- The loops over the paths and over the records, a unit's ACA, and that a place fits. Assumes nothing.
+-- The loops over the paths and over the records, and a unit's ACA. Assumes nothing.
 --     path_through, path_kept      the turns of the loops over the paths
 --     end_loop      for `search (rules, ..)`, the turns of the loop over the records;        owner_ways      of `claim`
 use Rattle.std.specs.Prelude.{Option, Some, None}
@@ -6,11 +6,10 @@ use Prim.Native.Nat.{ℕ, ◌+◌, ◌^◌, ◌≤◌, ◌<◌}
 use mathlib.Core.Path.{◌≡◌, refl, sym, ap, ap₂, ◌∙◌}
 use mathlib.Core.Bool.{Bool, true, false, cond, not, ◌&&◌}
 use mathlib.Core.List.{List}
-use mathlib.Core.Logic.{⊎_elim}
-use native.Mathlib.Nat.{le_refl, le_antisymm, le_of_eq, lt_trans}
+use native.Mathlib.Nat.{le_refl, le_antisymm}
 use native.Mathlib.Omega.{arith}
 use lib.ListN.{length, get_or, set, length-set}
-use Rattle.task.specs.Index.{first, map_at}
+use Rattle.task.specs.Index.{map_at}
 use Rattle.task.specs.Tasks.{no_task}
 use Rattle.task.specs.Map.{is_live, without_bit}
 use Rattle.task.specs.Selections.{picks, picks_live}
@@ -18,21 +17,13 @@ use Rattle.task.specs.declared.Task.{Task}
 use Rattle.task.specs.declared.select.Selection.{Selection}
 use Rattle.task.proofs.Ways.{never}
 use Rattle.std.specs.Prelude.{Option, Some, None}
-use Rattle.task.proofs.Places.{lt_or_le, first_before, first_none, map_of_ext}
+use Rattle.task.proofs.Places.{map_of_ext}
 use Rattle.task.proofs.Lists.{map_below, map_below_ahead, map_below_zero, map_below_step, map_below_put, map_below_skip, map_below_all, length_map_below}
 use Rattle.task.proofs.Clearing.{clear_below, clear_zero, clear_step, clear_skip, clear_ahead, clear_all}
-use Rattle.table.specs.Tables.{no_path, task_at, has_id, place_of, has_aca, picks_at, with_tasks, ended_by, claimed_unit}
+use Rattle.table.specs.Tables.{no_path, task_at, has_aca, picks_at, with_tasks, ended_by, claimed_unit}
 use Rattle.table.specs.declared.Path as path
 use Rattle.table.specs.declared.Table.{Table}
 use Rattle.table.proofs.Lists.{unmapped, past_end}
-
--- ---- the place of an id is at most 8
-
-pub place_fits : {n : ℕ} (paths : List path.Path) (count id : ℕ) → n ≡ place_of paths count id → n ≤ 8
-unfolding place_of
-place_fits paths count id e =
-    let p : ℕ → Bool = λ q. has_id count id q (get_or paths q no_path) in
-    rw e (⊎_elim (λ l. le_of_eq (first_none 8 p (λ k m. first_before 8 k p (lt_trans m l)))) (λ l. l) (lt_or_le 8 (first 8 p)))
 
 -- ---- a loop over the paths: those that q picks go through g
 

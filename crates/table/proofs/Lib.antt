@@ -5,4 +5,5 @@ pub mod Setting
 pub mod Lists
 pub mod Unique
 pub mod Stepping
+pub mod Listed
 mod Changing

@@ -56,6 +56,10 @@ place_of paths count id = first 8 (λ p. has_id count id p (get_or paths p no_pa
 abbrev pub path_of : Table → ℕ → ℕ
 path_of t id = place_of t.paths t.count id
 
+-- such a place, and none where it is 8
+abbrev pub if_listed : ℕ → Option ℕ
+if_listed p = cond (ltb p 8) (Some p) None
+
 abbrev pub is_nothing : Attention → Bool
 is_nothing attention.Nothing = true
 is_nothing attention.Reset = false

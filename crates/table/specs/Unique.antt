@@ -6,7 +6,7 @@ use Rattle.wire.specs.declared.codes.Kind.{Kind}
 use Rattle.task.specs.declared.Sequel.{Sequel}
 use Rattle.task.specs.declared.Task.{Task}
 use Rattle.task.specs.declared.select.Selection.{Selection}
-use Rattle.table.specs.Tables.{zero_table, path_at, unit_at, task_at, bit_of, is_attached, is_nothing, is_reset, is_cleared, has_aca, owned_by, aca_at, place_of, path_of, pick_of, has_room}
+use Rattle.table.specs.Tables.{zero_table, path_at, unit_at, task_at, bit_of, is_attached, is_nothing, is_reset, is_cleared, has_aca, owned_by, aca_at, place_of, path_of, if_listed, pick_of, has_room}
 use Rattle.table.specs.Tables.{marked_in, attention_gone_in, reset_attention_in, cleared_attention_in, claimed_in, aca_cleared_in, others_on}
 use Rattle.table.specs.Tables.{accepted, ended_by, started, restarted, finished, reset_of}
 use Rattle.table.specs.Steps.{stepped, finish_step, finish_units, holders_of, running_among}
@@ -18,12 +18,12 @@ use Rattle.table.specs.declared.Table.{Table}
 use Rattle.table.specs.declared.steps.Step.{Step}
 
 pub record AnswersAreOne : Type 0 where
-  pub path_of_is_one : (t : Table) (id : ℕ) → One (path_of t id)
+  pub path_of_is_one : (t : Table) (id : ℕ) → One (if_listed (path_of t id))
   pub path_at_is_one : (t : Table) (p : ℕ) → One (path_at t p)
   pub unit_at_is_one : (t : Table) (unit : ℕ) → One (unit_at t unit)
   pub is_attached_is_one : (t : Table) (unit : ℕ) → One (is_attached t unit)
   pub bit_of_is_one : (map i : ℕ) → One (bit_of map i)
-  pub place_of_is_one : (paths : List path.Path) (count id : ℕ) → One (place_of paths count id)
+  pub place_of_is_one : (paths : List path.Path) (count id : ℕ) → One (if_listed (place_of paths count id))
   pub is_nothing_is_one : (a : Attention) → One (is_nothing a)
   pub is_reset_is_one : (a : Attention) → One (is_reset a)
   pub is_cleared_is_one : (a : Attention) → One (is_cleared a)

@@ -1,7 +1,7 @@
 // Paths: what the rules ask of them, and how they change. A bad index changes nothing.
 ghost use Rattle.std.specs.Prelude.{◌≡◌};
 ghost use Rattle.table.specs.Tables;
-ghost use Rattle.table.specs.Tables.{path_at, has_id, place_of, path_of, is_nothing, is_reset, is_cleared, marked_in, attention_gone_in, with_reset_attention, reset_attention_in, with_cleared_attention, cleared_attention_in};
+ghost use Rattle.table.specs.Tables.{path_at, has_id, place_of, path_of, if_listed, is_nothing, is_reset, is_cleared, marked_in, attention_gone_in, with_reset_attention, reset_attention_in, with_cleared_attention, cleared_attention_in};
 
 use crate::{Attention, PATHS, Path, Table};
 
@@ -67,18 +67,17 @@ fn with_cleared_attention(a: Path) -> Path
     }
 }
 
-// The place of an id among the first `count` of the paths, or 8: `Tables.place_of`, and what is proved of it in the
-// crates above, has that number.
+// The place of an id among the first `count` of the paths.
 #[tactic(auto, using(task::proofs::Loops::first_loop))]
-pub fn place_of(paths: [Path; PATHS], count: u8, id: u32) -> usize
-    ensures { result ≡ place_of paths count id }
+pub fn place_of(paths: [Path; PATHS], count: u8, id: u32) -> Option<usize>
+    ensures { result ≡ if_listed (place_of paths count id) }
 {
     for (p, a) in paths.iter().enumerate() {
         if has_id(count as usize, id, p, *a) {
-            return p;
+            return Some(p);
         }
     }
-    PATHS
+    None
 }
 
 // Whether the path a at place p is listed and has the id.
@@ -139,12 +138,12 @@ pub fn give_cleared_attention(mut paths: [Path; PATHS], others: u8) -> [Path; PA
 }
 
 impl Table {
-    // The place of an id among the listed paths, or 8, as `place_of` says.
-    #[tactic(auto, using(crate::proofs::Changing::place_fits))]
-    pub fn path_of(self, id: u32) -> u8
-        ensures { result ≡ path_of self id }
+    // The place of an id among the listed paths.
+    #[tactic(auto, using(crate::proofs::Listed::place_fits))]
+    pub fn path_of(self, id: u32) -> Option<u8>
+        ensures { result ≡ if_listed (path_of self id) }
     {
-        place_of(self.paths, self.count, id) as u8
+        Some(place_of(self.paths, self.count, id)? as u8)
     }
 
     // The path at a place, and a wiped one past the end. The paths alone are copied: lent out of the table, they have
