@@ -202,7 +202,7 @@ fn damage(rt: &impl Print, b: &[u8]) -> io::Result<()> {
     Ok(())
 }
 
-// Answers the case of a letter with these bytes.
+// Answers the case of a letter with these bytes. (A match, and no table of functions: each takes what it needs.)
 pub(crate) fn run(rt: &impl Print, letter: u8, bytes: &[u8]) -> io::Result<()> {
     match letter {
         b'm' => message(rt, bytes),

@@ -39,7 +39,8 @@ fn is_gap(b: u8) -> bool {
     b == b' ' || b == b'.'
 }
 
-// The bytes that the digits say, at the front of the room; none where they say no bytes, or too many.
+// The bytes that the digits say, at the front of the room; none where they say no bytes, or too many. (No `for`: a pair
+// of digits takes a second `next`.)
 fn bytes_of<'a>(digits: &[u8], room: &'a mut [u8; ROOM]) -> Option<&'a [u8]> {
     let mut digits = digits.iter();
     let mut count = 0;

@@ -8,7 +8,11 @@ use task::{Kind, Phase, RECORDS, Sequel, Task};
 
 // Whether a path is all zero.
 fn no_path(a: Path) -> bool {
-    a.id == 0 && !a.full && matches!(a.attention, Attention::Nothing)
+    a == Path {
+        id: 0,
+        full: false,
+        attention: Attention::Nothing,
+    }
 }
 
 // A path's id, mark and attention.
@@ -174,7 +178,7 @@ fn places(field: Field) -> usize {
     }
 }
 
-// None, reset, cleared by another.
+// None, reset, cleared by another. (This and those below are no `From`: the types are of other crates.)
 fn attention_of(value: u8) -> Attention {
     match value {
         0 => Attention::Nothing,
@@ -186,16 +190,6 @@ fn attention_of(value: u8) -> Attention {
 // The ACA of an owner, and none for FFh.
 fn aca_of(value: u8) -> Option<u8> {
     (value != 0xff).then_some(value)
-}
-
-// By QUEUE CNTL; 3 and above is SIMPLE.
-fn kind_of(value: u8) -> Kind {
-    match value {
-        0 => Kind::Aca,
-        1 => Kind::Head,
-        2 => Kind::Ordered,
-        _ => Kind::Simple,
-    }
 }
 
 // Waiting, running; 2 and above waits to be confirmed.
@@ -231,7 +225,7 @@ fn set_task(a: &mut Task, field: TaskField, value: u8) {
         TaskField::Tag => a.tag = u16::from(value),
         TaskField::Path => a.path = value,
         TaskField::Unit => a.unit = value,
-        TaskField::Kind => a.kind = kind_of(value),
+        TaskField::Kind => a.kind = Kind::from(value),
         TaskField::Phase => a.phase = phase_of(value),
         TaskField::Transferred => a.position = arrival(value),
         TaskField::Offset => a.position = u64::from(value),

@@ -28,7 +28,7 @@ fn groups(s: &[u8], at: usize, left: usize) -> Option<(u64, usize)>
     Some((u64::from(x - 128) + high * 128, next))
 }
 
-// The number at a place.
+// The number at a place. (`event_at`, which is public, takes bytes and place apart, so they are no struct here either.)
 pub(crate) fn number_at(s: &[u8], at: usize) -> Option<(u64, usize)>
     ensures { result ≡ number_at s.now at }
 {

@@ -118,7 +118,8 @@ pub fn ask(g: Message) -> Asked
     }
 }
 
-// The tag and the unit that are asked about: the message's own, or those that an order names.
+// The tag and the unit that are asked about: the message's own, or those that an order names. A confirmation names no
+// unit, and nothing that is looked up for 0 is looked at then: so no Option.
 pub fn tag_asked(tag: u16, w: Request) -> u16
     ensures { result ≡ tag_asked tag w }
 {
@@ -194,7 +195,7 @@ fn tell(answer: Result<Answer, Refusal>) -> Plan
     }
 }
 
-// A refusal, by its number.
+// A refusal, which leaves the table as it is.
 pub fn refuse(n: Refusal) -> Plan
     ensures { result ≡ refusing n }
 {

@@ -44,7 +44,7 @@ impl Tally {
     // What a message ended is added. Both maps count, so that no compiler can leave them out.
     pub(crate) fn add_ended(&mut self, ended: u64, stops: u8) {
         count(&mut self.ended, live_count(ended) as u64);
-        count(&mut self.stopped, live_count(stops as u64) as u64);
+        count(&mut self.stopped, live_count(u64::from(stops)) as u64);
     }
 
     // The numbers, each behind its word.

@@ -21,7 +21,8 @@ impl Table {
         task::scan::next_of(&self.tasks, self.live, s)
     }
 
-    // The record at a place, and a wiped one past the end. With `at_or`, as in `path_at`, the table is copied once more.
+    // The record at a place, and a wiped one past the end. With `at_or`, as in `path_at`, the table is copied once more on
+    // the stack, which has a bound.
     pub fn task_at(self, i: usize) -> Task
         ensures { result ≡ task_at self i }
     {
@@ -40,7 +41,8 @@ impl Table {
         task::map::lowest_free(self.live) < RECORDS && self.next <= LAST_ARRIVAL
     }
 
-    // A new waiting task in the lowest free record, under the next arrival number; with no room nothing changes.
+    // A new waiting task in the lowest free record, under the next arrival number; with no room nothing changes. (The five
+    // parts are those of `Tables.accepted`, which the laws speak of: so no struct.)
     #[tactic(auto, unfolding(crate::specs::Steps::stepped))]
     pub fn accept(self, path: u8, tag: u16, unit: u8, kind: Kind, sequel: Sequel) -> Table
         ensures { result ≡ accepted self path tag unit kind sequel }
@@ -124,7 +126,8 @@ impl Table {
     }
 
     // The map of the units on which a live task that the selection picks runs: one pass over the records. (One function
-    // for this and `holders`, with a test and a number as closures, is no plainer than two loops.)
+    // for this and `holders`, with a test and a number as closures, is no plainer than two loops. The map has 8 bits at
+    // most, so no `try_from`, here and in `others_on`: no error could come of it.)
     #[tactic(auto, using(crate::proofs::Stepping::running_all, task::proofs::Gathering::gather_start))]
     pub fn running_among(self, s: Selection) -> u8
         ensures { result ≡ running_among self s }

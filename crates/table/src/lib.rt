@@ -12,7 +12,8 @@ ghost use Rattle.std.specs.Prelude.{◌≡◌, get_or};
 
 use task::{RECORDS, Task};
 
-// A path's pending unit attention. The first variant is the zero of a wiped record.
+// A path's pending unit attention. The first variant is the zero of a wiped record, and none is pending then: with an
+// Option each of the three would be two words, and no plainer.
 #[derive(Clone, Copy, PartialEq, Eq)]
 pub enum Attention {
     Nothing,

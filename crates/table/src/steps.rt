@@ -135,7 +135,7 @@ impl Table {
     }
 }
 
-// Whether record i is live and its task a runs.
+// Whether record i is live and its task a runs. (The three are no struct: `finish` would make one to take it apart here.)
 fn runs_in(live: u64, i: usize, a: Task) -> bool
     ensures { result ≡ runs_in live i a }
 {

@@ -44,7 +44,7 @@ fn consider(best: Option<Pick>, a: Task, i: usize, live: u64, s: Selection) -> O
     best
 }
 
-// The thin scan over the lent records.
+// The thin scan over the lent records. (The map and the selection go to `picked_live` as they come: no struct.)
 pub fn next_of(tasks: &[Task], live: u64, s: Selection) -> Option<Pick>
     ensures { result ≡ scan live s tasks.now }
 {

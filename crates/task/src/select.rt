@@ -13,7 +13,7 @@ pub enum Whose {
     Named(u8, u16),
 }
 
-// What a task must have: each part is None where nothing is asked, as the number is its arrival number.
+// What a task must have: each part is None where nothing is asked. The number is the arrival number.
 #[derive(Clone, Copy)]
 pub struct Selection {
     pub number: Option<u64>,

@@ -1,4 +1,4 @@
-// A line of the transcript, made byte by byte. No line is longer than 64 bytes; a line that is full takes no more.
+// A line of the transcript, made word by word. No line is longer than 64 bytes; a line that is full takes no more.
 ghost use Rattle.std.specs.Prelude.{◌≡◌, ◌%◌, ◌++◌, []};
 ghost use Rattle.wire.specs.Codes;
 ghost use Rattle.transcript.specs.Lines.{push_all, decimal_of, digit_of, hex_of, hex_word, sense_text, reply_text, answer_text, line_of, end_ok, Handed};

@@ -1,5 +1,5 @@
-// The numbers of page 01 and 003, those of a type as its associated constants. specs/Codes.antt has them under the
-// same names and says when each is meant.
+// The numbers of page 01 and 003: those of a type as its associated constants, those of a refusal and of a kind by
+// `number`. specs/Codes.antt has them under the same names and says when each is meant.
 ghost use Rattle.std.specs.Prelude.{◌≡◌};
 ghost use Rattle.wire.specs.Codes.{refusal_number, kind_number, kind_of};
 
