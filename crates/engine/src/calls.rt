@@ -174,26 +174,28 @@ fn choose(checked: bool, attached: bool, busy: bool, next: Option<Pick>) -> Resu
 
 // The unit is free: the task that goes next runs. The answer has its arrival number and the offset to start at.
 #[tactic(auto, using(table::proofs::Stepping::holders_found), unfolding(crate::specs::Calls::start_of, crate::specs::Calls::start_choice, crate::specs::Calls::choice_on, crate::specs::Steps::chosen_by, table::specs::Steps::stepped))]
-pub fn start(t: Table, unit: u8) -> Outcome
+pub fn start(mut t: Table, unit: u8) -> Outcome
     ensures { StartContract t unit result }
 {
     let running = t.holders(Selection::running_on(unit));
     let next = t.pick(may_go(t.unit_at(unit).aca, unit));
-    match choose(is_sound(t), t.is_attached(unit), running.is_some(), next) {
-        Err(n) => refused(t, n),
-        Ok(p) => Outcome {
-            table: t.step(Step::Alter {
-                place: p.at,
-                by: Alteration::Run,
-            }),
-            answer: Ok(Answer::Started {
-                offset: p.task.position,
-                arrival: p.task.arrival,
-            }),
-            ended: 0,
-            to: 0,
-            stops: 0,
-        },
+    let p = match choose(is_sound(t), t.is_attached(unit), running.is_some(), next) {
+        Ok(p) => p,
+        Err(n) => return refused(t, n),
+    };
+    t = t.step(Step::Alter {
+        place: p.at,
+        by: Alteration::Run,
+    });
+    Outcome {
+        table: t,
+        answer: Ok(Answer::Started {
+            offset: p.task.position,
+            arrival: p.task.arrival,
+        }),
+        ended: 0,
+        to: 0,
+        stops: 0,
     }
 }
 
