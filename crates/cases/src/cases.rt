@@ -182,7 +182,8 @@ fn verdict(rt: &impl Print, b: &[u8]) -> io::Result<()> {
     }
 }
 
-// A place, and what the reader says when 1 is added to the byte there.
+// A place, and what the reader says when 1 is added to the byte there. (The room and its count have one use, on the last
+// line: so no vector.)
 fn place(rt: &impl Print, b: &[u8], at: usize) -> io::Result<()> {
     word_if(rt, " ", at > 0)?;
     print!(rt; "{at}:")?;

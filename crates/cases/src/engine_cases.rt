@@ -1,5 +1,5 @@
 // The letters of the engine's calls: each takes the kept table, says the answer and what was ended, and hands back the
-// next table.
+// next table. (The output, the table and the bytes are no struct: it would be made anew for each line.)
 use crate::cases::{BUFFER, FILL, ROOM, bad_case, refused};
 use crate::print::{counted_if, pairs, pairs_filled};
 use engine::Outcome;
@@ -90,7 +90,7 @@ fn say_buffer(rt: &impl Print, buffer: &[u8]) -> io::Result<()> {
     pairs_filled(rt, buffer, FILL)
 }
 
-// Letter U: setup, from the mask, the first arrival number and the ids, one byte each.
+// Letter U: setup, from the mask, the first arrival number and the ids, one byte each. (The room has one use: no vector.)
 fn setup(rt: &impl Print, t: Table, c: &[u8]) -> io::Result<Table> {
     let [mask, first, bytes @ ..] = c else {
         return bad(rt, t);

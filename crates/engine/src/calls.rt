@@ -53,7 +53,7 @@ fn reply_to(a: Result<Answer, Refusal>, reply: &mut [u8])
     }
 }
 
-// The step of the records that a plan asks for.
+// The step of the records that a plan asks for. (No `From`: one place asks for it.)
 fn step_of(r: RecordChange) -> Step
     ensures { result ≡ step_of r }
 {

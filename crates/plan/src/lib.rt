@@ -299,7 +299,7 @@ fn plan_confirm(own: Option<Pick>, p: u8, tag: u16, m: &[u8], offset: u32, compl
             records: RecordChange::Complete(Selection::numbered_as(arrival, p, tag)),
         };
     }
-    if offset as u64 > task.position {
+    if u64::from(offset) > task.position {
         return tell(Ok(Answer::Reply(Reply::Response { tag, code })));
     }
     Plan {

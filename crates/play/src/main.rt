@@ -33,7 +33,7 @@ fn close(rt: &impl Print, p: Player) -> io::Result<()> {
     put(rt, &line, wrote)
 }
 
-// Writes the first n bytes of a line.
+// Writes the first n bytes of a line. (`replay` has its like: a line each, and no library for the two.)
 fn put(rt: &impl Print, line: &[u8], n: usize) -> io::Result<()> {
     rt.write_all(line.get(..n).unwrap_or_default())
 }

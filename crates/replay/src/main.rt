@@ -73,7 +73,7 @@ fn closes(rt: &impl Print, name: &[u8], number: usize, p: Player, rest: &[u8]) -
     agrees(rt, name, number, rest, front(&line, wrote))
 }
 
-// The first n bytes of a line.
+// The first n bytes of a line. (`play` has its like: a line each, and no library for the two.)
 fn front(line: &[u8], n: usize) -> &[u8] {
     line.get(..n).unwrap_or_default()
 }

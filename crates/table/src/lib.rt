@@ -59,7 +59,7 @@ pub const UNITS: usize = 8;
 // The last arrival number that a command can take: 2^64 - 2.
 pub const LAST_ARRIVAL: u64 = 0xffff_ffff_ffff_fffe;
 
-// The element at a place, and `none` past the end.
+// The element at a place, and `none` past the end. (`get`, `copied` and `unwrap_or` would be no plainer.)
 fn at_or<T: Copy>(xs: &[T], i: usize, none: T) -> T
     ensures { result ≡ get_or xs.now i none }
 {

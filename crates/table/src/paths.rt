@@ -21,7 +21,7 @@ pub(crate) fn no_path() -> Path
 pub fn bit_of(map: u8, i: usize) -> bool
     ensures { result ≡ Tables.bit_of map i }
 {
-    task::map::is_live(map as u64, i)
+    task::map::is_live(u64::from(map), i)
 }
 
 // Which attention is pending.

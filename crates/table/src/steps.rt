@@ -67,7 +67,7 @@ fn altered(a: Task, by: Alteration) -> Task
         },
         Alteration::Restart(offset) => Task {
             phase: Phase::Waiting,
-            position: offset as u64,
+            position: u64::from(offset),
             ..a
         },
         Alteration::Await(transferred) => Task {

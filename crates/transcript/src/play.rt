@@ -30,7 +30,8 @@ pub struct Player {
     pub state: State,
 }
 
-// The player after a step, and how many bytes of the line buffer were written.
+// The player after a step, and how many bytes of the line buffer were written: 0 where there was no event, since a line
+// is never empty, so no Option.
 #[derive(Clone, Copy)]
 pub struct Step {
     pub player: Player,

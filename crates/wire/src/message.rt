@@ -116,7 +116,7 @@ fn confirm_of(m: &[u8], tag: u16, path: u32) -> Message
     }
 }
 
-// The message of a row, with the fields of its table.
+// The message of a row, with the fields of its table. (By the row's number, as the tables and `Messages.fields_of` are.)
 #[tactic(auto, unfolding(crate::specs::Messages::fields_of))]
 fn fields_of(m: &[u8], row: usize) -> Message
     ensures { result ≡ fields_of row m.now }
