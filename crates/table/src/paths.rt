@@ -54,7 +54,7 @@ fn with_reset_attention(a: Path, unmark: bool) -> Path
     }
 }
 
-// The path with cleared attention, unless reset is pending. (This one and the last share no line: so two functions.)
+// The path with cleared attention, unless reset is pending. (One function with the last would be a test of two bools.)
 fn with_cleared_attention(a: Path) -> Path
     ensures { result ≡ with_cleared_attention a }
 {
