@@ -68,21 +68,18 @@ fn case(rt: &impl Print, t: Table, letter: u8, digits: &[u8]) -> io::Result<Tabl
     Ok(next)
 }
 
-// Echoes a line, and answers it unless it is empty or a heading.
-fn line(rt: &impl Print, t: Table, l: &[u8]) -> io::Result<Table> {
-    rt.write_all(l)?;
-    rt.write_all(b"\n")?;
-    match l {
-        [] | [b'#', ..] => Ok(t),
-        [letter, digits @ ..] => case(rt, t, *letter, digits),
-    }
-}
-
-// Takes the lines one by one. The table is all zero at first.
+// Takes the lines one by one: echoes each, and answers it unless it is empty or a heading. The table is all zero at
+// first, and handed on to a case alone.
 fn lines(rt: &impl Print, text: &[u8]) -> io::Result<()> {
     let mut t = Table::zero();
-    for l in text.split_inclusive(|b| *b == b'\n') {
-        t = line(rt, t, l.strip_suffix(b"\n").unwrap_or(l))?;
+    for line in text.split_inclusive(|b| *b == b'\n') {
+        let line = line.strip_suffix(b"\n").unwrap_or(line);
+        rt.write_all(line)?;
+        rt.write_all(b"\n")?;
+        match line {
+            [] | [b'#', ..] => {}
+            [letter, digits @ ..] => t = case(rt, t, *letter, digits)?,
+        }
     }
     Ok(())
 }

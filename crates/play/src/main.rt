@@ -25,12 +25,6 @@ fn play(rt: &impl Print, s: &[u8]) -> io::Result<()> {
         }
         put(rt, &line, wrote)?;
     }
-    close(rt, p)
-}
-
-// Writes the last line.
-fn close(rt: &impl Print, p: Player) -> io::Result<()> {
-    let mut line = [0u8; 64];
     let wrote = transcript::play::close(p, &mut line);
     put(rt, &line, wrote)
 }

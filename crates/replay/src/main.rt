@@ -132,7 +132,7 @@ fn replay(rt: &(impl Files + Print), name: &[u8]) -> io::Result<bool> {
     Ok(true)
 }
 
-// The names: each line without its last byte, which is its end.
+// The names: each line without its last byte, which is its end (the last line too, where it has none).
 fn replay_all(rt: &(impl Files + Print), names: &[u8]) -> io::Result<()> {
     let mut all: u64 = 0;
     let mut good: u64 = 0;
