@@ -17,7 +17,7 @@ pub const FILL: u8 = 0xaa;
 
 // The answer to a line that is no case.
 pub(crate) fn bad_case(rt: &impl Print) -> io::Result<()> {
-    print!(rt; "bad case")
+    rt.write_all(b"bad case")
 }
 
 // A refusal by its number.
@@ -93,7 +93,7 @@ fn message(rt: &impl Print, m: &[u8]) -> io::Result<()> {
 
 // Letter b: the command block, and what the rules ask of it.
 fn block(rt: &impl Print, m: &[u8]) -> io::Result<()> {
-    print!(rt; "block")?;
+    rt.write_all(b"block")?;
     pairs(rt, command_block(m))?;
     word_if(rt, " cut", cut_short(m))?;
     word_if(rt, " none", no_length(m))?;
@@ -110,7 +110,7 @@ fn written(rt: &impl Print, length: u8, r: Reply) -> io::Result<()> {
         Ok(n) => print!(rt; "written {n}")?,
         Err(why) => refused(rt, why)?,
     }
-    print!(rt; " buffer")?;
+    rt.write_all(b" buffer")?;
     pairs_filled(rt, buffer, FILL)
 }
 

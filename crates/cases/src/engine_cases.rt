@@ -42,7 +42,7 @@ fn say_reply(rt: &impl Print, r: Reply) -> io::Result<()> {
 // An answer in the words of a transcript, and `ready` for a setup. A start has the offset behind it that is handed back.
 fn say(rt: &impl Print, a: Result<Answer, Refusal>) -> io::Result<()> {
     match a {
-        Ok(Answer::Ready) => print!(rt; "ready"),
+        Ok(Answer::Ready) => rt.write_all(b"ready"),
         Ok(Answer::Accepted(n)) => print!(rt; "accepted {n}"),
         Ok(Answer::Reply(r)) => say_reply(rt, r),
         Ok(Answer::Started { offset, arrival }) => {
@@ -51,7 +51,7 @@ fn say(rt: &impl Print, a: Result<Answer, Refusal>) -> io::Result<()> {
         }
         Ok(Answer::Confirmed(n)) => print!(rt; "confirmed {n}"),
         Ok(Answer::Restarted(n)) => print!(rt; "restarted {n}"),
-        Ok(Answer::Reset) => print!(rt; "reset"),
+        Ok(Answer::Reset) => rt.write_all(b"reset"),
         Err(r) => refused(rt, r),
     }
 }
@@ -80,13 +80,13 @@ fn say_block(rt: &impl Print, part: &[u8]) -> io::Result<()> {
     if part.is_empty() {
         return Ok(());
     }
-    print!(rt; " block")?;
+    rt.write_all(b" block")?;
     pairs(rt, part)
 }
 
 // The whole buffer.
 fn say_buffer(rt: &impl Print, buffer: &[u8]) -> io::Result<()> {
-    print!(rt; " buffer")?;
+    rt.write_all(b" buffer")?;
     pairs_filled(rt, buffer, FILL)
 }
 
@@ -172,7 +172,7 @@ fn reset(rt: &impl Print, t: Table, c: &[u8]) -> io::Result<Table> {
 fn say_pick(rt: &impl Print, p: Option<Pick>) -> io::Result<()> {
     match p {
         Some(p) => print!(rt; "next {} at {}", p.task.arrival, p.at),
-        None => print!(rt; "nobody"),
+        None => rt.write_all(b"nobody"),
     }
 }
 

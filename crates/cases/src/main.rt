@@ -7,7 +7,7 @@ mod engine_cases;
 mod print;
 mod table_cases;
 
-ghost use Rattle.std.specs.Prelude.{◌<◌, IfSome};
+ghost use Rattle.std.specs.Prelude.{◌<◌, ◌≤◌, length, IfOk, IfSome};
 
 use cases::ROOM;
 use std::io::Read;
@@ -16,7 +16,7 @@ use std::{fs, io};
 use table::Table;
 
 // How much is read of standard input, and of a file.
-const MOST: u64 = 65536;
+const MOST: usize = 65536;
 
 // The value of an upper-case hex digit.
 fn digit(b: u8) -> Option<u8>
@@ -59,51 +59,64 @@ fn bytes_of<'a>(digits: &[u8], room: &'a mut [u8; ROOM]) -> Option<&'a [u8]> {
 // Answers a case on a line of its own: its letter, and the digits behind it.
 fn case(rt: &impl Print, t: Table, letter: u8, digits: &[u8]) -> io::Result<Table> {
     let mut room = [0; ROOM];
-    print!(rt; "  ")?;
+    rt.write_all(b"  ")?;
     let next = match bytes_of(digits, &mut room) {
         Some(bytes) => engine_cases::run(rt, t, letter, bytes)?,
         None => engine_cases::bad(rt, t)?,
     };
-    println!(rt; "")?;
+    rt.write_all(b"\n")?;
     Ok(next)
 }
 
-// Echoes a line, and answers it unless it is empty or a heading.
-fn line(rt: &impl Print, t: Table, l: &[u8]) -> io::Result<Table> {
-    rt.write_all(l)?;
-    println!(rt; "")?;
-    match l {
-        [] | [b'#', ..] => Ok(t),
-        [letter, digits @ ..] => case(rt, t, *letter, digits),
-    }
-}
-
-// Takes the lines one by one. The table is all zero at first.
+// Takes the lines one by one: echoes each, and answers it unless it is empty or a heading. The table is all zero at
+// first, and handed on to a case alone.
 fn lines(rt: &impl Print, text: &[u8]) -> io::Result<()> {
     let mut t = Table::zero();
-    for l in text.split_inclusive(|b| *b == b'\n') {
-        t = line(rt, t, l.strip_suffix(b"\n").unwrap_or(l))?;
+    for line in text.split_inclusive(|b| *b == b'\n') {
+        let line = line.strip_suffix(b"\n").unwrap_or(line);
+        rt.write_all(line)?;
+        rt.write_all(b"\n")?;
+        match line {
+            [] | [b'#', ..] => {}
+            [letter, digits @ ..] => t = case(rt, t, *letter, digits)?,
+        }
     }
     Ok(())
 }
 
+// Fills the buffer from its front until it is full or the input ends, and answers how many bytes were read. (No Vec: the
+// program takes no heap, so it can't run out of it. A read says how far it came: so a `while`.)
+fn read_full(from: &mut impl Read, buf: &mut [u8]) -> io::Result<usize>
+    ensures { IfOk result (λ n. n ≤ length buf.new) }
+{
+    let mut done = 0;
+    while done < buf.len() {
+        let n = from.read(&mut buf[done..])?;
+        if n == 0 {
+            break;
+        }
+        done += n;
+    }
+    Ok(done)
+}
+
 // Takes the lines of an open file.
-fn run_file(rt: &(impl Print + Alloc), file: impl Read + Drop) -> io::Result<()> {
-    let mut text = Vec::new(rt.alloc());
-    file.take(MOST).read_to_end(&mut text)?;
-    lines(rt, &text)
+fn run_file(rt: &impl Print, file: &mut impl Read) -> io::Result<()> {
+    let mut text = [0; MOST];
+    let n = read_full(file, &mut text)?;
+    lines(rt, &text[..n])
 }
 
 // Takes the lines of a file.
-fn run_named(rt: &(impl Files + Print + Alloc), name: &str) -> io::Result<()> {
+fn run_named(rt: &(impl Files + Print), name: &str) -> io::Result<()> {
     match fs::open(rt, name) {
-        Ok(file) => run_file(rt, file),
+        Ok(mut file) => run_file(rt, &mut file),
         Err(_) => println!(rt; "{name} missing"),
     }
 }
 
 fn main(rt: HostRuntime) -> io::Result<()> {
-    run_file(&rt, rt.reader())?;
+    run_file(&rt, &mut rt.reader())?;
     run_named(&rt, "confirmed")?;
     run_named(&rt, "ended")?;
     run_named(&rt, "held")

@@ -1,4 +1,4 @@
-// Words and numbers, written to standard output.
+// Words and numbers, written to standard output. (A word alone is handed on by `write_all`: to format it takes longer.)
 use std::io;
 
 // A word and the number behind it, where that is not 0.
@@ -12,7 +12,7 @@ pub(crate) fn counted_if(rt: &impl Print, word: &str, n: u64) -> io::Result<()> 
 // A word, where it applies.
 pub(crate) fn word_if(rt: &impl Print, word: &str, applies: bool) -> io::Result<()> {
     if applies {
-        print!(rt; "{word}")?;
+        rt.write_all(word.as_bytes())?;
     }
     Ok(())
 }

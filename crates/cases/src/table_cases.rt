@@ -22,8 +22,8 @@ fn path_fields(rt: &impl Print, a: Path) -> io::Result<()> {
     let pending = a.attention;
     match pending {
         Attention::Nothing => Ok(()),
-        Attention::Reset => print!(rt; " reset"),
-        Attention::Cleared => print!(rt; " cleared"),
+        Attention::Reset => rt.write_all(b" reset"),
+        Attention::Cleared => rt.write_all(b" cleared"),
     }
 }
 
@@ -31,7 +31,7 @@ fn path_fields(rt: &impl Print, a: Path) -> io::Result<()> {
 fn show_paths(rt: &impl Print, t: Table) -> io::Result<()> {
     for (p, a) in t.paths.iter().enumerate() {
         if p < t.count as usize {
-            print!(rt; "; path ")?;
+            rt.write_all(b"; path ")?;
         } else if no_path(*a) {
             continue;
         } else {
@@ -275,7 +275,7 @@ pub(crate) fn poke(rt: &impl Print, mut t: Table, c: &[u8]) -> io::Result<Table>
     match field_of(number) {
         Some(field) if i < places(field) => {
             set(&mut t, field, i, value);
-            print!(rt; "set")?;
+            rt.write_all(b"set")?;
             Ok(t)
         }
         _ => bad(rt, t),

@@ -3,6 +3,8 @@
 // alone. tools/stack reads the built program.
 #![tactic(auto)]
 
+ghost use Rattle.std.specs.Prelude.{◌≤◌, length, IfOk};
+
 use engine::calls::{finish, message, setup, start, total_reset};
 use std::io;
 use std::io::Read;
@@ -52,13 +54,25 @@ fn say(rt: &impl Print, word: &[u8], t: Table) -> io::Result<()> {
     rt.print(live_count(t.live) as u64)
 }
 
-fn main(rt: HostRuntime) -> io::Result<()> {
-    let mut input = Vec::new(rt.alloc());
-    rt.reader().take(64).read_to_end(&mut input)?;
-    let mut b = [0u8; 64];
-    for (to, from) in b.iter_mut().zip(&input) {
-        *to = *from;
+// Fills the buffer from its front until it is full or the input ends, and answers how many bytes were read. (No Vec: the
+// program takes no heap, so it can't run out of it. A read says how far it came: so a `while`.)
+fn read_full(from: &mut impl Read, buf: &mut [u8]) -> io::Result<usize>
+    ensures { IfOk result (λ n. n ≤ length buf.new) }
+{
+    let mut done = 0;
+    while done < buf.len() {
+        let n = from.read(&mut buf[done..])?;
+        if n == 0 {
+            break;
+        }
+        done += n;
     }
+    Ok(done)
+}
+
+fn main(rt: HostRuntime) -> io::Result<()> {
+    let mut b = [0u8; 64];
+    read_full(&mut rt.reader(), &mut b)?;
     let mut reply = [0u8; 64];
     say(&rt, b"live ", calls(b, &mut reply))?;
     say(&rt, b" ", calls_again(b, &mut reply))?;

@@ -1,7 +1,8 @@
 -- The header as the program reads it is the heading with nine of its ids, so it says what the heading says.
 -- Assumes nothing.
-use Rattle.std.proofs.Common.{ℕ, Bool, false, zero, suc, ◌≤◌, ◌<◌, ◌≡◌, refl, sym, ap, ◌∙◌, true, List, [], ◌∷◌, ◌++◌, append-nil, length, take, length-append, arith}
+use Rattle.std.proofs.Common.{ℕ, Bool, false, zero, suc, ◌≤◌, ◌<◌, ◌≡◌, refl, sym, ap, ◌∙◌, true, List, [], ◌∷◌, ◌++◌, append-nil, length, take, drop, replicate, length-append, arith}
 use Rattle.std.proofs.lemmas.List.{take_all, take-append-le, length-take, length-take-le}
+use Rattle.std.proofs.Math.Seq.{take-append_seam}
 use mathlib.Core.Bool.{or-true, false≢true}
 use lib.Seq.{append_snoc}
 use lib.Dec.{ltb, eqb}
@@ -12,7 +13,7 @@ use Rattle.arrayvec.specs.ArrayVec.{ArrayVec}
 use Rattle.table.specs.Setup.{bad_list}
 use Rattle.input.specs.Numbers.{number_at, byte_at, id_at, given}
 use Rattle.input.specs.Header.{Heading, malformed, heading, ids_then, heading_of}
-use Rattle.input.specs.Reading.{kept_with, ids_from, header_of}
+use Rattle.input.specs.Reading.{kept_with, ids_from, padded, header_of}
 use Rattle.input.specs.Promises.{Alike, Says}
 use Rattle.input.specs.declared.header.Header.{Header}
 
@@ -29,6 +30,10 @@ many_kept ids h = length-take-le 9 ids h
 
 nine_at_most : (ids : List ℕ) → length (take 9 ids) ≤ 9
 nine_at_most ids = omega (arith, length-take 9 ids)
+
+-- the ids are those at the front of the places
+padded_front : (ids : List ℕ) → length ids ≤ 9 → take (length ids) (padded ids) ≡ ids
+padded_front ids h = rw (take_all 9 ids h) (take-append_seam ids (drop (length ids) (replicate 9 0)))
 
 -- nine of so many, and one more, are nine of all
 kept_next : (ids : List ℕ) (id : ℕ) → kept_with (take 9 ids) id ≡ take 9 (ids ++ id ∷ [])
@@ -67,7 +72,8 @@ alike ids = by_length (ltb (length ids) 9) refl
 -- what the code keeps of a heading
 abbrev kept_of : Heading → Option Header
 kept_of malformed = None
-kept_of (heading ids mask first next) = Some (record { first = first; next = next; ids = nine_of ids; mask = mask })
+kept_of (heading ids mask first next) =
+    Some (record { first = first; next = next; count = length (take 9 ids); ids = padded (take 9 ids); mask = mask })
 
 -- what follows from what was read, told in two ways
 given_both :
@@ -106,14 +112,14 @@ module _ (s : List ℕ) where
 
 said : (h : Heading) → Says h (kept_of h)
 said malformed = refl
-said (heading ids mask first next) = (refl, refl, refl, alike ids)
+said (heading ids mask first next) = (refl, refl, refl, rw (padded_front (take 9 ids) (nine_at_most ids)) (alike ids))
 
 pub header_read : (s : List ℕ) → Says (heading_of s) (header_of s)
 header_read s = rw (← header_kept s) (said (heading_of s))
 
-pub at_most_nine : (s : List ℕ) (h : Header) → header_of s ≡ Some h → length h.ids.items ≤ 9
+pub at_most_nine : (s : List ℕ) (h : Header) → header_of s ≡ Some h → h.count ≤ 9
 at_most_nine s h e = by_heading (heading_of s) (header_kept s ∙ e)
   where
-    by_heading : (k : Heading) → kept_of k ≡ Some h → length h.ids.items ≤ 9
+    by_heading : (k : Heading) → kept_of k ≡ Some h → h.count ≤ 9
     by_heading malformed q = absurd (none-some h q)
     by_heading (heading ids mask first next) q = rw (← same_Some _ h q) (nine_at_most ids)

@@ -4,7 +4,7 @@ use Rattle.table.specs.Setup.{bad_list}
 use Rattle.input.specs.Numbers.{number_at, groups_of}
 use Rattle.input.specs.Header.{Heading, malformed, heading, heading_of}
 use Rattle.input.specs.Events.{event_at}
-use Rattle.input.specs.Reading.{header_of}
+use Rattle.input.specs.Reading.{header_of, listed}
 use Rattle.input.specs.declared.header.Header.{Header}
 use Rattle.input.specs.declared.event.Event.{Event}
 
@@ -36,14 +36,14 @@ Alike kept ids = (bad_list kept ≡ bad_list ids) × (bad_list ids ≡ false →
 abbrev pub Says : Heading → Option Header → Type 0
 Says malformed h = h ≡ None
 Says (heading ids mask first next) None = ⊥
-Says (heading ids mask first next) (Some h) = (h.mask ≡ mask) × (h.first ≡ first) × (h.next ≡ next) × Alike h.ids.items ids
+Says (heading ids mask first next) (Some h) = (h.mask ≡ mask) × (h.first ≡ first) × (h.next ≡ next) × Alike (listed h) ids
 
 abbrev pub HeaderIsRead : Type 0
 HeaderIsRead = (s : List ℕ) → Says (heading_of s) (header_of s)
 
 -- no header that is read has more ids than are kept
 abbrev pub NineAreKept : Type 0
-NineAreKept = (s : List ℕ) (h : Header) → header_of s ≡ Some h → length h.ids.items ≤ 9
+NineAreKept = (s : List ℕ) (h : Header) → header_of s ≡ Some h → h.count ≤ 9
 
 -- ---- the events
 

@@ -1,6 +1,6 @@
 // The header of a transcript: path count, ids, mask of attached units, first arrival number. It is read whole.
 ghost use Rattle.std.specs.Prelude.{◌≡◌, []};
-ghost use Rattle.input.specs.Reading.{ids_from, header_of};
+ghost use Rattle.input.specs.Reading.{ids_from, padded, header_of};
 
 use crate::number::{byte_at, number_at};
 use arrayvec::ArrayVec;
@@ -8,12 +8,14 @@ use arrayvec::ArrayVec;
 // The most ids that are kept. A setup takes eight: with nine it is refused.
 const KEPT: usize = 9;
 
-// What the header says, with the first nine of its ids, and the place after it.
-#[derive(Drop)]
+// What the header says, and the place after it: `count` ids are kept, nine at most. (An array with a count, since a
+// header is Copy and a vector is not.)
+#[derive(Clone, Copy)]
 pub struct Header {
     pub first: u64,
     pub next: usize,
-    pub ids: ArrayVec<u32, KEPT>,
+    pub count: usize,
+    pub ids: [u32; KEPT],
     pub mask: u8,
 }
 
@@ -35,6 +37,16 @@ fn ids_from(s: &[u8], at: usize, count: u8) -> Option<(ArrayVec<u32, KEPT>, usiz
     Some((ids, next))
 }
 
+// The ids at the front of nine places, and 0 in those behind them.
+fn padded(ids: &[u32]) -> [u32; KEPT]
+    ensures { result ≡ padded ids.now }
+{
+    let mut places = [0; KEPT];
+    let n = ids.len().min(KEPT);
+    places[..n].copy_from_slice(&ids[..n]);
+    places
+}
+
 // The header at the front of the input.
 #[tactic(auto, unfolding(crate::specs::Numbers::given, crate::specs::Reading::header_of))]
 pub fn read_header(s: &[u8]) -> Option<Header>
@@ -47,7 +59,8 @@ pub fn read_header(s: &[u8]) -> Option<Header>
     Some(Header {
         first,
         next,
-        ids,
+        count: ids.len(),
+        ids: padded(ids.as_slice()),
         mask,
     })
 }

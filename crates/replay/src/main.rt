@@ -2,18 +2,20 @@
 // The file `names` has one name a line; NAME.in is an input, NAME.out its text.
 #![tactic(auto)]
 
-use std::alloc::{AllocError, Allocator};
+ghost use Rattle.std.specs.Prelude.{◌≤◌, length, IfOk};
+
+use arrayvec::ArrayString;
 use std::io::Read;
 use std::rt::Files;
 use std::{fs, io};
 use transcript::play::Player;
 
 // How much is read of an input, a byte more than the longest has; of a text; and of the names.
-const INPUT: u64 = 65537;
+const INPUT: usize = 65537;
 
-const TEXT: u64 = 65536;
+const TEXT: usize = 65536;
 
-const NAMES: u64 = 4096;
+const NAMES: usize = 4096;
 
 // The most bytes of a file's path.
 const PATH: usize = 63;
@@ -79,36 +81,50 @@ fn front(line: &[u8], n: usize) -> &[u8] {
 }
 
 // Opens the file of a name; one whose path is too long or is no text is missing.
-fn open<R: Files + Alloc>(rt: &R, name: &[u8], ending: &str) -> io::Result<Option<R::File>> {
-    let Ok(name) = str::from_utf8(name) else {
-        return Ok(None);
-    };
-    let path = format!(in rt.alloc(); "{name}{ending}")?;
-    if path.len() > PATH {
-        return Ok(None);
-    }
-    Ok(fs::open(rt, path.as_str()).ok())
+fn open<R: Files>(rt: &R, name: &[u8], ending: &str) -> Option<R::File> {
+    let mut path = ArrayString::<PATH>::new();
+    path.try_push_str(str::from_utf8(name).ok()?).ok()?;
+    path.try_push_str(ending).ok()?;
+    fs::open(rt, path.as_str()).ok()
 }
 
-// Reads so many bytes of a file at most, and closes it.
-fn read<R: Alloc>(rt: &R, file: impl Read + Drop, most: u64) -> io::Result<Vec<u8, R::A>> {
-    let mut bytes = Vec::new(rt.alloc());
-    file.take(most).read_to_end(&mut bytes)?;
-    Ok(bytes)
+// Fills the buffer from its front until it is full or the input ends, and answers how many bytes were read. (No Vec: the
+// program takes no heap, so it can't run out of it. A read says how far it came: so a `while`.)
+fn read_full(from: &mut impl Read, buf: &mut [u8]) -> io::Result<usize>
+    ensures { IfOk result (λ n. n ≤ length buf.new) }
+{
+    let mut done = 0;
+    while done < buf.len() {
+        let n = from.read(&mut buf[done..])?;
+        if n == 0 {
+            break;
+        }
+        done += n;
+    }
+    Ok(done)
+}
+
+// Reads a file, and closes it.
+fn read(mut file: impl Read + Drop, buf: &mut [u8]) -> io::Result<usize>
+    ensures { IfOk result (λ n. n ≤ length buf.new) }
+{
+    read_full(&mut file, buf)
 }
 
 // One transcript: whether it is the same.
-fn replay(rt: &(impl Files + Print + Alloc), name: &[u8]) -> io::Result<bool> {
-    let input = open(rt, name, ".in")?;
-    let output = open(rt, name, ".out")?;
+fn replay(rt: &(impl Files + Print), name: &[u8]) -> io::Result<bool> {
+    let input = open(rt, name, ".in");
+    let output = open(rt, name, ".out");
     let (Some(input), Some(output)) = (input, output) else {
         rt.write_all(name)?;
         rt.write_all(b" missing\n")?;
         return Ok(false);
     };
-    let s = read(rt, input, INPUT)?;
-    let text = read(rt, output, TEXT)?;
-    if !plays(rt, name, &s, &text)? {
+    let mut s = [0; INPUT];
+    let mut text = [0; TEXT];
+    let n = read(input, &mut s)?;
+    let m = read(output, &mut text)?;
+    if !plays(rt, name, &s[..n], &text[..m])? {
         return Ok(false);
     }
     rt.write_all(name)?;
@@ -116,28 +132,25 @@ fn replay(rt: &(impl Files + Print + Alloc), name: &[u8]) -> io::Result<bool> {
     Ok(true)
 }
 
-// The names: each line without its end.
-fn names_of<A: Allocator>(alloc: A, text: &[u8]) -> Result<Vec<&[u8], A>, AllocError> {
-    let lines = text.split_inclusive(|b| *b == b'\n');
-    lines
-        .filter_map(|line| Some(line.split_last()?.1))
-        .collect(alloc)
-}
-
-fn replay_all(rt: &(impl Files + Print + Alloc), names: &[&[u8]]) -> io::Result<()> {
-    let mut good: usize = 0;
-    for name in names {
+// The names: each line without its last byte, which is its end (the last line too, where it has none).
+fn replay_all(rt: &(impl Files + Print), names: &[u8]) -> io::Result<()> {
+    let mut all: u64 = 0;
+    let mut good: u64 = 0;
+    for line in names.split_inclusive(|b| *b == b'\n') {
+        let name = line.split_last().map_or(line, |(_, name)| name);
         if replay(rt, name)? {
-            good += 1;
+            good = good.saturating_add(1);
         }
+        all = all.saturating_add(1);
     }
-    println!(rt; "{} transcripts, {good} same", names.len())
+    println!(rt; "{all} transcripts, {good} same")
 }
 
 fn main(rt: HostRuntime) -> io::Result<()> {
     let Ok(file) = fs::open(&rt, "names") else {
         return rt.write_all(b"names missing\n");
     };
-    let text = read(&rt, file, NAMES)?;
-    replay_all(&rt, &names_of(rt.alloc(), &text)?)
+    let mut names = [0; NAMES];
+    let n = read(file, &mut names)?;
+    replay_all(&rt, &names[..n])
 }

@@ -4,25 +4,28 @@ ghost use Rattle.table.specs.Tables.{aca_at};
 ghost use Rattle.sound.specs.Sound;
 ghost use Rattle.sound.specs.Sound.{is_no_path, is_no_task, may_stand, live_ok, record_ok, unit_ok, cannot_share_unit, clash_of};
 
-use table::{Attention, Path, Table, Unit};
+use table::{Path, Table, Unit};
 use task::Task;
 
 // A path all zero.
 pub(crate) fn is_no_path(a: Path) -> bool
     ensures { result ≡ is_no_path a }
 {
-    a == Path {
-        id: 0,
-        full: false,
-        attention: Attention::Nothing,
-    }
+    a.id == 0 && !a.full && table::paths::is_nothing(a.attention)
 }
 
 // A record all zero.
 pub fn is_no_task(a: Task) -> bool
     ensures { result ≡ is_no_task a }
 {
-    a == task::no_task()
+    a.arrival == 0
+        && a.position == 0
+        && a.tag == 0
+        && a.path == 0
+        && a.unit == 0
+        && task::is_aca(a.kind)
+        && task::is_waiting(a.phase)
+        && task::is_end(a.sequel)
 }
 
 // An ACA task only on a unit with ACA, only from its owner.

@@ -127,7 +127,9 @@ impl Table {
 
     // The map of the units on which a live task that the selection picks runs: one pass over the records. (One function
     // for this and `holders`, with a test and a number as closures, is no plainer than two loops. The map has 8 bits at
-    // most, so no `try_from`, here and in `others_on`: no error could come of it.)
+    // most, so no `try_from`, here and in `others_on`: no error could come of it.) It stays a function by itself: put into
+    // a call, it brings a second table into the call's frame, and the stack has a bound.
+    #[inline(never)]
     #[tactic(auto, using(crate::proofs::Stepping::running_all, task::proofs::Gathering::gather_start))]
     pub fn running_among(self, s: Selection) -> u8
         ensures { result ≡ running_among self s }

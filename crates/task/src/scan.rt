@@ -30,18 +30,14 @@ fn goes_before(a: Task, b: Task) -> bool
     !is_head(b.kind) && a.arrival < b.arrival
 }
 
-// The best so far, after record i.
+// The best so far, after record i. It is written where the record wins, and only read at the others.
 #[tactic(auto, unfolding(crate::specs::Scan::considered))]
-fn consider(best: Option<Pick>, a: Task, i: usize, live: u64, s: Selection) -> Option<Pick>
-    ensures { result ≡ considered live s best i a }
+fn consider(best: &mut Option<Pick>, a: Task, i: usize, live: u64, s: Selection)
+    ensures { best.new ≡ considered live s best.old i a }
 {
-    if !crate::select::picked_live(live, s, i, a) {
-        return best;
+    if crate::select::picked_live(live, s, i, a) && best.is_none_or(|b| goes_before(a, b.task)) {
+        *best = Some(Pick { task: a, at: i });
     }
-    if best.is_none_or(|b| goes_before(a, b.task)) {
-        return Some(Pick { task: a, at: i });
-    }
-    best
 }
 
 // The thin scan over the lent records. (The map and the selection go to `picked_live` as they come: no struct.)
@@ -50,7 +46,7 @@ pub fn next_of(tasks: &[Task], live: u64, s: Selection) -> Option<Pick>
 {
     let mut best = None;
     for (i, a) in tasks.iter().enumerate() {
-        best = consider(best, *a, i, live, s);
+        consider(&mut best, *a, i, live, s);
     }
     best
 }

@@ -1,7 +1,8 @@
 -- Lines in the making: bytes put one text behind another, and a number in decimal.
 -- Assumes nothing.
-use Rattle.std.proofs.Common.{ℕ, zero, suc, ◌-◌, ◌^◌, ◌<◌, ◌≡◌, refl, sym, ap, ◌∙◌, List, [], ◌∷◌, ◌++◌, append_assoc, append-nil, length, take, length-append, arith}
+use Rattle.std.proofs.Common.{ℕ, zero, suc, ◌-◌, ◌^◌, ◌<◌, ◌≡◌, refl, sym, ap, ◌∙◌, List, [], ◌∷◌, ◌++◌, append_assoc, append-nil, length, take, min, length-append, arith}
 use Rattle.std.proofs.Math.Seq.{take-nil}
+use Rattle.std.proofs.lemmas.List.{take_min, length-take-le}
 use Rattle.std.proofs.lemmas.Fmt.{AppendsLastDigit, decimal_from_appends, length-decimal-le}
 use Rattle.std.specs.Prelude.{decimal}
 use lib.Dec.{ltb}
@@ -30,6 +31,18 @@ unfolding push_all
 push_append l a b =
     let room : 64 - length (l ++ take (64 - length l) a) ≡ 64 - length l - length (take (64 - length l) a) = simp length-append (omega arith) in
     append_assoc l _ _ ∙ rw room (ap (λ (t : List ℕ). l ++ t) (take_both (64 - length l) a b))
+
+-- as many bytes of a word as there is room for, behind those of a line
+pub pushed_word :
+    (bytes word : List ℕ) (len at n : ℕ) → length bytes ≡ 64 → at ≡ min len 64 → n ≡ min (length word) (64 - at)
+    → take at bytes ++ take n word ≡ push_all (take len bytes) word
+unfolding push_all
+pushed_word bytes word len at n b a e =
+    let front : take at bytes ≡ take len bytes = ap (λ (k : ℕ). take k bytes) (a ∙ ap (min len) (sym b)) ∙ take_min len bytes in
+    let count : length (take at bytes) ≡ at = length-take-le at bytes (omega arith) in
+    let room : n ≡ min (64 - at) (length word) = omega arith in
+    let all : take n word ≡ take (64 - at) word = ap (λ (k : ℕ). take k word) room ∙ take_min (64 - at) word in
+    rw (← front, count, all)
 
 -- nothing, handed over
 module _ (buf : List ℕ) where

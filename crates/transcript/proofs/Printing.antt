@@ -16,7 +16,7 @@ use Rattle.table.specs.declared.Table.{Table}
 use Rattle.engine.specs.Calls.{setup_of}
 use Rattle.input.specs.Events.{event_at}
 use Rattle.input.specs.Header.{Heading, malformed, heading, heading_of}
-use Rattle.input.specs.Reading.{header_of}
+use Rattle.input.specs.Reading.{header_of, listed}
 use Rattle.input.specs.Promises.{Says}
 use Rattle.input.specs.declared.header.Header.{Header}
 use Rattle.input.specs.declared.event.Event.{Event}
@@ -65,11 +65,11 @@ plays (suc left) t n s at h =
 -- ---- from the header on
 
 module _ (h : Header) where
-  header_refused : bad_list h.ids.items ≡ true → by_header (Some h) ≡ standing (set_by h).table state.Refused
+  header_refused : bad_list (listed h) ≡ true → by_header (Some h) ≡ standing (set_by h).table state.Refused
   unfolding by_header setup_of
   header_refused b = rw b
 
-  header_set : bad_list h.ids.items ≡ false → by_header (Some h) ≡ player (set_by h).table h.next 0 state.Playing
+  header_set : bad_list (listed h) ≡ false → by_header (Some h) ≡ player (set_by h).table h.next 0 state.Playing
   unfolding by_header setup_of
   header_set b = rw b
 

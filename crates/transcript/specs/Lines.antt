@@ -12,6 +12,7 @@ use Rattle.reply.specs.declared.Reply.TheVariants.{Response, Status, Invalid}
 use Rattle.plan.specs.declared.Answer.{Answer}
 use Rattle.plan.specs.declared.Answer.TheVariants as answer
 use Rattle.plan.specs.declared.Answer.TheVariants.{Ready, Accepted, Started, Confirmed, Restarted, Reset}
+use Rattle.transcript.specs.declared.line.Line.{Line}
 
 -- ---- words
 
@@ -122,6 +123,10 @@ abbrev pub end_refused : ℕ → List ℕ
 end_refused n = end_word ++ (refused_word ++ (decimal_of n ++ (newline ∷ [])))
 
 -- ---- a line in the making has 64 bytes at most
+
+-- the bytes of a line: those at the front of its room
+abbrev pub shown : Line → List ℕ
+shown l = take l.len l.bytes
 
 -- bytes put behind those of a line, as many as there is room for: a full line takes no more
 unfoldable pub push_all : List ℕ → List ℕ → List ℕ

@@ -9,7 +9,7 @@ use Rattle.table.specs.declared.Table.{Table}
 use Rattle.plan.specs.declared.Answer.{Answer}
 use Rattle.engine.specs.Calls.{setup_of}
 use Rattle.engine.specs.declared.Outcome.{Outcome}
-use Rattle.input.specs.Reading.{header_of}
+use Rattle.input.specs.Reading.{header_of, listed}
 use Rattle.input.specs.Events.{event_at}
 use Rattle.input.specs.declared.header.Header.{Header}
 use Rattle.input.specs.declared.event.Event.{Event}
@@ -40,7 +40,7 @@ is_playing state.Refused = false
 
 -- setup by a header
 abbrev pub set_by : Header → Outcome
-set_by h = setup_of h.ids.items h.mask h.first
+set_by h = setup_of (listed h) h.mask h.first
 
 unfoldable pub by_header : Option Header → Player
 by_header None = standing zero_table state.Bad

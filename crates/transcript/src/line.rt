@@ -1,34 +1,48 @@
 // A line of the transcript, made word by word. No line is longer than 64 bytes; a line that is full takes no more.
 ghost use Rattle.std.specs.Prelude.{◌≡◌, ◌%◌, ◌++◌, []};
 ghost use Rattle.wire.specs.Codes;
-ghost use Rattle.transcript.specs.Lines.{push_all, decimal_of, digit_of, hex_of, hex_word, sense_text, reply_text, answer_text, line_of, end_ok, Handed};
+ghost use Rattle.transcript.specs.Lines.{shown, push_all, decimal_of, digit_of, hex_of, hex_word, sense_text, reply_text, answer_text, line_of, end_ok, Handed};
 ghost use Rattle.transcript.specs.Text.{end_of};
 
-use arrayvec::ArrayVec;
 use plan::Answer;
 use reply::Reply;
-use std::io::Write;
 use wire::codes::{Refusal, Sense};
 use wire::fields::copy;
 
 // The room of a line.
 pub const LINE_ROOM: usize = 64;
 
-// A line in the making.
-pub type Line = ArrayVec<u8, LINE_ROOM>;
+// A line in the making: so many bytes at the front. (No ArrayVec: a line is Copy, and that is not.)
+#[derive(Clone, Copy)]
+pub struct Line {
+    pub bytes: [u8; LINE_ROOM],
+    pub len: usize,
+}
+
+// A line with nothing on it.
+pub(crate) fn empty() -> Line
+    ensures { shown result ≡ [] }
+{
+    Line {
+        bytes: [0; LINE_ROOM],
+        len: 0,
+    }
+}
 
 // All bytes of a word, or as many as there is room for.
-#[tactic(auto, using(std::proofs::lemmas::List::take_min), unfolding(crate::specs::Lines::push_all))]
 fn push_word(line: &mut Line, word: &[u8])
-    ensures { line.new.items ≡ push_all line.old.items word.now }
+    ensures { shown line.new ≡ push_all (shown line.old) word.now }
 {
-    let _count = line.write(word);
+    let at = line.len.min(LINE_ROOM);
+    let n = word.len().min(LINE_ROOM - at);
+    line.bytes[at..at + n].copy_from_slice(&word[..n]);
+    line.len = at + n;
 }
 
 // A number in decimal.
 #[tactic(auto, using(crate::proofs::Lines::decimal_law))]
 fn push_decimal(line: &mut Line, n: u64)
-    ensures { line.new.items ≡ push_all line.old.items (decimal_of n) }
+    ensures { shown line.new ≡ push_all (shown line.old) (decimal_of n) }
 {
     push_word(line, itoa::Buffer::new().format(n).as_bytes());
 }
@@ -47,14 +61,14 @@ fn digit(d: u8) -> u8
 
 // A space and a byte in two hex digits.
 fn push_hex(line: &mut Line, b: u8)
-    ensures { line.new.items ≡ push_all line.old.items (hex_of b) }
+    ensures { shown line.new ≡ push_all (shown line.old) (hex_of b) }
 {
     push_word(line, &[b' ', digit(b / 16), digit(b)]);
 }
 
 // A space and a tag in four hex digits.
 fn push_tag(line: &mut Line, tag: u16)
-    ensures { line.new.items ≡ push_all line.old.items (hex_word tag) }
+    ensures { shown line.new ≡ push_all (shown line.old) (hex_word tag) }
 {
     let [high, low] = tag.to_be_bytes();
     push_word(
@@ -72,7 +86,7 @@ fn push_tag(line: &mut Line, tag: u16)
 // The sense fields of a status.
 #[tactic(auto, using(crate::proofs::Lines::push_append))]
 fn push_sense(line: &mut Line, s: Sense)
-    ensures { line.new.items ≡ push_all line.old.items (sense_text s) }
+    ensures { shown line.new ≡ push_all (shown line.old) (sense_text s) }
 {
     push_hex(line, s.key);
     push_hex(line, s.code);
@@ -82,7 +96,7 @@ fn push_sense(line: &mut Line, s: Sense)
 // A word and a number in decimal.
 #[tactic(auto, using(crate::proofs::Lines::push_append))]
 fn push_number(line: &mut Line, word: &[u8], n: u64)
-    ensures { line.new.items ≡ push_all line.old.items (word.now ++ decimal_of n) }
+    ensures { shown line.new ≡ push_all (shown line.old) (word.now ++ decimal_of n) }
 {
     push_word(line, word);
     push_decimal(line, n);
@@ -91,7 +105,7 @@ fn push_number(line: &mut Line, word: &[u8], n: u64)
 // A word, a tag and a code or status.
 #[tactic(auto, using(crate::proofs::Lines::push_append))]
 fn push_coded(line: &mut Line, word: &[u8], tag: u16, b: u8)
-    ensures { line.new.items ≡ push_all line.old.items (word.now ++ (hex_word tag ++ hex_of b)) }
+    ensures { shown line.new ≡ push_all (shown line.old) (word.now ++ (hex_word tag ++ hex_of b)) }
 {
     push_word(line, word);
     push_tag(line, tag);
@@ -101,7 +115,7 @@ fn push_coded(line: &mut Line, word: &[u8], tag: u16, b: u8)
 // What a reply says.
 #[tactic(auto, using(crate::proofs::Lines::push_append), unfolding(crate::specs::Lines::reply_text))]
 fn push_reply(line: &mut Line, r: Reply)
-    ensures { line.new.items ≡ push_all line.old.items (reply_text r) }
+    ensures { shown line.new ≡ push_all (shown line.old) (reply_text r) }
 {
     match r {
         Reply::Response { tag, code } => push_coded(line, b" response", tag, code.0),
@@ -119,7 +133,7 @@ fn push_reply(line: &mut Line, r: Reply)
 // What an answer says behind the event's number.
 #[tactic(auto, using(crate::proofs::Lines::push_nothing), unfolding(crate::specs::Lines::answer_text))]
 fn push_answer(line: &mut Line, a: Result<Answer, Refusal>)
-    ensures { line.new.items ≡ push_all line.old.items (answer_text a) }
+    ensures { shown line.new ≡ push_all (shown line.old) (answer_text a) }
 {
     match a {
         Ok(Answer::Ready) => {}
@@ -136,9 +150,9 @@ fn push_answer(line: &mut Line, a: Result<Answer, Refusal>)
 // The line of event n.
 #[tactic(auto, using(crate::proofs::Lines::push_append))]
 pub(crate) fn event_line(n: u64, a: Result<Answer, Refusal>) -> Line
-    ensures { result.items ≡ push_all [] (line_of n a) }
+    ensures { shown result ≡ push_all [] (line_of n a) }
 {
-    let mut line = Line::new();
+    let mut line = empty();
     push_decimal(&mut line, n);
     push_answer(&mut line, a);
     push_word(&mut line, b"\n");
@@ -148,27 +162,27 @@ pub(crate) fn event_line(n: u64, a: Result<Answer, Refusal>) -> Line
 // The three last lines.
 #[tactic(auto, using(crate::proofs::Lines::push_append))]
 pub(crate) fn ok_line(live: u32) -> Line
-    ensures { result.items ≡ push_all [] (end_ok live) }
+    ensures { shown result ≡ push_all [] (end_ok live) }
 {
-    let mut line = Line::new();
+    let mut line = empty();
     push_number(&mut line, b"end ok ", u64::from(live));
     push_word(&mut line, b"\n");
     line
 }
 
 pub(crate) fn bad_line() -> Line
-    ensures { result.items ≡ push_all [] (end_of Codes.malformed) }
+    ensures { shown result ≡ push_all [] (end_of Codes.malformed) }
 {
-    let mut line = Line::new();
+    let mut line = empty();
     push_word(&mut line, b"end bad\n");
     line
 }
 
 #[tactic(auto, unfolding(crate::specs::Lines::decimal_in))]
 pub(crate) fn refused_line() -> Line
-    ensures { result.items ≡ push_all [] (end_of Codes.bad_paths) }
+    ensures { shown result ≡ push_all [] (end_of Codes.bad_paths) }
 {
-    let mut line = Line::new();
+    let mut line = empty();
     push_word(&mut line, b"end refused 11\n");
     line
 }
@@ -176,10 +190,10 @@ pub(crate) fn refused_line() -> Line
 // Copies a line to the front of a lent buffer, and answers its length; a buffer under 64 bytes keeps its bytes.
 #[tactic(auto, unfolding(crate::specs::Lines::handed_of, crate::specs::Lines::handed_in))]
 pub(crate) fn hand_over(text: &Line, line: &mut [u8]) -> usize
-    ensures { Handed text.now.items line.old result line.new }
+    ensures { Handed (shown text.now) line.old result line.new }
 {
     if line.len() < LINE_ROOM {
         return 0;
     }
-    copy(text.as_slice(), line)
+    copy(text.bytes.get(..text.len).unwrap_or(&text.bytes), line)
 }

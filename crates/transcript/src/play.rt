@@ -1,7 +1,7 @@
 // The player: open on an input, advance by an event and a line, close with the last line.
 ghost use Rattle.std.specs.Prelude.{◌≡◌};
 ghost use Rattle.transcript.specs.Text.{part_of, called};
-ghost use Rattle.transcript.specs.Lines.{Handed};
+ghost use Rattle.transcript.specs.Lines.{shown, Handed};
 ghost use Rattle.transcript.specs.Playing.{standing, standing_at, opened, idled, turned, Advances, last_line};
 
 use crate::line::{LINE_ROOM, Line};
@@ -63,7 +63,8 @@ pub fn open(s: &[u8]) -> Player
     let Some(h) = input::header::read_header(s) else {
         return stopped(Table::zero(), State::Bad);
     };
-    let o = engine::calls::setup(h.ids.as_slice(), h.mask, h.first);
+    let ids = h.ids.get(..h.count).unwrap_or(&h.ids);
+    let o = engine::calls::setup(ids, h.mask, h.first);
     if o.answer.is_err() {
         return stopped(o.table, State::Refused);
     }
@@ -189,10 +190,10 @@ pub fn advance(p: Player, s: &[u8], line: &mut [u8]) -> Step
 // The last line, for where the player stands; a player that still plays has none.
 #[tactic(auto, using(crate::proofs::Lines::push_nothing), unfolding(crate::specs::Playing::last_text))]
 fn last_line(p: Player) -> Line
-    ensures { result.items ≡ last_line p }
+    ensures { shown result ≡ last_line p }
 {
     match p.state {
-        State::Playing => Line::new(),
+        State::Playing => crate::line::empty(),
         State::Done => crate::line::ok_line(task::map::live_count(p.table.live)),
         State::Bad => crate::line::bad_line(),
         State::Refused => crate::line::refused_line(),

@@ -8,7 +8,7 @@ use Rattle.task.proofs.scan.next_of.Goals as goal
 pub loop-i-preserved : goal.loop-i-preserved
 loop-i-preserved c =
     let l = c.loop-i in
-    l.invariant ∙ scan_step_or c.args.live c.args.s l.best l.i c.args.tasks.now _ c.loop-i-test.true ∙ ap (λ b. scan_from c.args.live c.args.s b (l.i + 1) (drop (l.i + 1) c.args.tasks.now)) (sym c.consider-best.ensures)
+    l.invariant ∙ scan_step_or c.args.live c.args.s l.best l.i c.args.tasks.now _ c.loop-i-test.true ∙ ap (λ b. scan_from c.args.live c.args.s b (l.i + 1) (drop (l.i + 1) c.args.tasks.now)) (sym c.consider.ensures)
 
 pub returns : goal.returns
 returns c =

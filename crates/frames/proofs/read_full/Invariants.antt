@@ -1,0 +1,9 @@
+-- `frames::read_full` answers no more than the buffer has, and ends: what is left of it falls to 0. Assumes nothing.
+use Rattle.std.proofs.Common.{◌≤◌, ◌-◌, length}
+use Rattle.frames.proofs.read_full.Given as goal
+
+abbrev pub invariant-loop-done : goal.invariant-loop-done
+invariant-loop-done g l = l.done ≤ length l.buf
+
+abbrev pub decreases-loop-done : goal.decreases-loop-done
+decreases-loop-done g l = length l.initial.buf - l.done
